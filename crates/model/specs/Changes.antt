@@ -1,0 +1,86 @@
+-- What done calls change in the tables.
+use Prim.Native.Nat.{ℕ, _+_, _/_, _%_}
+use mathlib.Core.Bool.{Bool, true, false, not}
+use mathlib.Core.List.{List}
+use lib.Dec.{eqb}
+use Rattle.lists.specs.Choice.{choose, both, either}
+use Rattle.lists.specs.Places.{mapPlaces}
+use Rattle.model.specs.declared.Entry.{Entry}
+use Rattle.model.specs.declared.Grant.{Grant}
+use Rattle.model.specs.declared.Grant.the-variants.{Nothing, Reading, Writing}
+use Rattle.model.specs.declared.Permit.{Permit}
+use Rattle.model.specs.declared.Right.{Right}
+use Rattle.model.specs.declared.Right.the-variants.{Read, Write}
+use Rattle.model.specs.declared.Space.{Space}
+use Rattle.model.specs.declared.Standing.{Standing}
+use Rattle.model.specs.declared.Standing.the-variants.{Unused, Valid, Revoked}
+use Rattle.model.specs.declared.State.{State}
+use Rattle.model.specs.Tables.{noSpace, noPermit, spaceAt, withSpaces, withPermits, withEntries}
+
+-- Rights.
+-- "write includes read"
+unfoldable pub allows : Grant → Right → Bool
+allows Nothing r = false
+allows Reading Read = true
+allows Reading Write = false
+allows Writing r = true
+
+-- "The right becomes the greater of old and new"
+unfoldable pub raised : Grant → Right → Grant
+raised Nothing Read = Reading
+raised Nothing Write = Writing
+raised Reading Read = Reading
+raised Reading Write = Writing
+raised Writing r = Writing
+
+-- Entries.
+-- "A sequence .. each time the entry goes from valid or revoked to unused, goes up by one; it wraps from 255 to 0."
+unfoldable pub releasedFrom : Standing → (sequence : ℕ) → Entry
+releasedFrom Unused q = record { standing = Unused; sequence = q }
+releasedFrom (Valid u r) q = record { standing = Unused; sequence = (q + 1) % 256 }
+releasedFrom Revoked q = record { standing = Unused; sequence = (q + 1) % 256 }
+
+unfoldable pub released : Entry → Entry
+released e = releasedFrom (e .standing) (e .sequence)
+
+-- a valid entry for a slot of which the test holds becomes revoked
+unfoldable pub revokedFrom : (ℕ → Bool) → Standing → Standing
+revokedFrom t Unused = Unused
+revokedFrom t (Valid u r) = choose (t u) Revoked (Valid u r)
+revokedFrom t Revoked = Revoked
+
+unfoldable pub revoked : (ℕ → Bool) → Entry → Entry
+revoked t e = record { standing = revokedFrom t (e .standing); sequence = e .sequence }
+
+-- the guest in whose list the entry at place k stands, and the slot whose permit stands at place k
+abbrev pub listOwner : ℕ → ℕ
+listOwner k = k / 30 + 1
+
+abbrev pub permitSlot : ℕ → ℕ
+permitSlot k = k / 8
+
+-- RESET: "all the caller's entries become unused"
+unfoldable pub releasedAll : (guest : ℕ) → List Entry → List Entry
+releasedAll g es = mapPlaces (λ k e. choose (eqb (listOwner k) g) (released e) e) es
+
+-- Withdrawing spaces. DESTROY, ISOLATE and RESET are one change over two sets of slots: `gone`, whose spaces are
+-- destroyed, and `closed`, whose permits go.
+unfoldable pub vacated : (gone : ℕ → Bool) → List Space → List Space
+vacated gone ss = mapPlaces (λ u x. choose (gone u) noSpace x) ss
+
+unfoldable pub unpermitted : (closed : ℕ → Bool) → List Permit → List Permit
+unpermitted closed ps = mapPlaces (λ k p. choose (closed (permitSlot k)) noPermit p) ps
+
+-- whether guest h's valid entry for slot u is revoked: every guest's for a destroyed space, and for a closed one
+-- every guest's but the owner's
+unfoldable pub loses : List Space → (gone closed : ℕ → Bool) → (guest slot : ℕ) → Bool
+loses ss gone closed h u = either (gone u) (both (closed u) (not (eqb (spaceAt ss u .owner) h)))
+
+unfoldable pub revokedAll : (ℕ → ℕ → Bool) → List Entry → List Entry
+revokedAll t es = mapPlaces (λ k e. revoked (t (listOwner k)) e) es
+
+unfoldable pub withdrawn : (gone closed : ℕ → Bool) → State → State
+withdrawn gone closed s =
+    withEntries
+    (withPermits (withSpaces s (vacated gone (s .spaces))) (unpermitted closed (s .permits)))
+    (revokedAll (loses (s .spaces) gone closed) (s .entries))

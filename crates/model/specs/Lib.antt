@@ -1,0 +1,26 @@
+-- Paper 01 as executable definitions, in its order and under its headings. This folder is what a reader has to believe.
+
+-- "Sizes"
+pub mod Sizes
+pub mod Names
+pub mod Tables
+pub mod Frames
+pub mod Fresh
+-- "Answer numbers"
+pub mod Answers
+-- "The calls, each with its order of checks"
+pub mod Searches
+pub mod Changes
+pub mod Decision
+pub mod Arguments
+pub mod Calls
+-- "Tokens and translation"
+pub mod Tokens
+pub mod Translation
+-- "A sound state": as statements, and as a Boolean
+pub mod Sound
+pub mod SoundTest
+-- "What the statements owe": answer, value, tables and every byte, call by call and over a list
+pub mod Step
+-- "Both sides of each edge"
+pub mod Cases

@@ -1,0 +1,181 @@
+// The types of the space manager. What they mean is defined in specs/, under the headings of paper 01.
+// Numbers of guests are 1 to 8, of slots 0 to 31, of entries 2 to 31.
+
+pub enum Right {
+    Read,
+    Write,
+}
+
+// "unused; valid with a space and a right; or revoked". The space is named by its slot.
+pub enum Standing {
+    Unused,
+    Valid { slot: u8, right: Right },
+    Revoked,
+}
+
+// "An entry is a sequence number and a standing". The standing stands first: its tag is then the lowest byte of the entry.
+pub struct Entry {
+    pub standing: Standing,
+    pub sequence: u8,
+}
+
+// What a guest is permitted of a space.
+pub enum Grant {
+    Nothing,
+    Reading,
+    Writing,
+}
+
+pub struct Permit {
+    pub grant: Grant,
+}
+
+// A space is live where its identification is not 0. A name is eight bytes in one number, the first byte highest.
+pub struct Space {
+    pub id: u32,
+    pub owner: u8,
+    pub name: u64,
+    pub first: u16,
+    pub pages: u16,
+}
+
+pub struct Guest {
+    pub enrolled: bool,
+    pub allowance: u8,
+    pub share: bool,
+    pub list: u8,
+    pub asf: bool,
+}
+
+// The access registers of a CPU, and its mode: true is access-register mode, false primary mode.
+pub struct Cpu {
+    pub registers: [u32; 16],
+    pub mode: bool,
+}
+
+// Guest g stands at place g - 1 of guests and cpus; its permit for the space in slot u at place u * 8 + (g - 1);
+// entry n of its list at place (g - 1) * 30 + (n - 2).
+pub struct State {
+    pub frames: u32,
+    pub next: u32,
+    pub spaces: [Space; 32],
+    pub guests: [Guest; 8],
+    pub cpus: [Cpu; 8],
+    pub permits: [Permit; 256],
+    pub entries: [Entry; 240],
+}
+
+// The kinds of arguments that have limits.
+pub enum Kind {
+    Pages,
+    Allowance,
+    ListSize,
+    Flag,
+    Name,
+    Register,
+    Length,
+    OtherGuest,
+    Frames,
+}
+
+// One case for each reason. specs/Answers.antt gives each the paper's number and value.
+pub enum Answer {
+    Done { value: u32 },
+    Unsound,
+    BadCaller,
+    Limit { kind: Kind, place: u8 },
+    NameTaken,
+    NoSpace,
+    NotOwner,
+    NoSharing,
+    AllowanceUsed,
+    SlotsUsed,
+    NoRun,
+    NoIdentification,
+    NotPermitted,
+    ListFull,
+    AletSpecification,
+    AlenTranslation,
+    AddressingCapability,
+    Addressing,
+    Protection,
+    SpecialOperation,
+    PrimarySpace,
+    LineNotRead,
+}
+
+// Who calls.
+pub struct Caller {
+    pub guest: u32,
+}
+
+// The thirteen calls with their arguments, the caller left out. ENROL's guest is its caller. The length of a fetch or
+// store is that of the lent buffer.
+pub enum Operation {
+    Enrol {
+        pages: u32,
+        allowance: u32,
+        share: u32,
+        list: u32,
+        asf: u32,
+    },
+    Create {
+        name: u64,
+        pages: u32,
+    },
+    Destroy {
+        id: u32,
+    },
+    Permit {
+        id: u32,
+        guest: u32,
+        right: Right,
+    },
+    Isolate {
+        id: u32,
+    },
+    Query {
+        owner: u32,
+        name: u64,
+    },
+    Add {
+        id: u32,
+        right: Right,
+    },
+    Remove {
+        token: u32,
+    },
+    Load {
+        register: u32,
+        value: u32,
+    },
+    Mode {
+        mode: u32,
+    },
+    Fetch {
+        register: u32,
+        address: u32,
+    },
+    Store {
+        register: u32,
+        address: u32,
+    },
+    Reset,
+}
+
+pub struct Call {
+    pub caller: Caller,
+    pub operation: Operation,
+}
+
+// What a call returns: the answer and the tables after it.
+pub struct Reply {
+    pub answer: Answer,
+    pub state: State,
+}
+
+// What host access-register translation gives: the space's slot and the right, or the refusal.
+pub enum Translation {
+    Reached { slot: u8, right: Right },
+    Refused(Answer),
+}
