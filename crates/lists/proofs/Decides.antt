@@ -1,0 +1,69 @@
+-- Booleans with their meanings, put together as the Booleans are. Assumes nothing.
+use Prim.Native.Nat.{ℕ, _≤_, _<_}
+use mathlib.Core.Bool.{Bool, true, false, not}
+use mathlib.Core.Logic.{_⊎_, inl, inr, ⊎-elim}
+use mathlib.Core.Path.{_≡_, refl}
+use lib.Dec.{leb, ltb, eqb}
+use borrow.Author.Tests.{eqb-true, ltb-true, leb-true, eq-eqb, le-leb, lt-ltb}
+use Rattle.lists.specs.Choice.{both, either, implies, choose}
+use Rattle.lists.specs.Decides.{Decides}
+use Rattle.lists.specs.Places.{every}
+use Rattle.lists.proofs.Choice.{true-false, not-so, not-to, both-left, both-right, both-intro, either-to, either-left, either-right, implies-to, implies-of, yes!, no!, choose-elim}
+use Rattle.lists.proofs.Places.{every-at, every-intro}
+
+abbrev pub d-le : (m n : ℕ) → Decides (leb m n) (m ≤ n)
+d-le m n = record { to = leb-true m n; of = le-leb m n }
+
+abbrev pub d-lt : (m n : ℕ) → Decides (ltb m n) (m < n)
+d-lt m n = record { to = ltb-true m n; of = lt-ltb m n }
+
+abbrev pub d-eq : (m n : ℕ) → Decides (eqb m n) (m ≡ n)
+d-eq m n = record { to = eqb-true m n; of = eq-eqb m n }
+
+abbrev pub d-is : (b : Bool) → Decides b (b ≡ true)
+d-is b = record { to = λ e. e; of = λ e. e }
+
+abbrev pub d-isnt : (b : Bool) → Decides (not b) (b ≡ false)
+d-isnt b = record { to = not-to b; of = λ e. rw e }
+
+module _ {a b : Bool} {P Q : Type 0} (p : Decides a P) (q : Decides b Q) where
+  abbrev pub d-both : Decides (both a b) (P × Q)
+  d-both = record {
+    to = λ e. (p .to (both-left a b e), q .to (both-right a b e));
+    of = λ h. both-intro a b (p .of (h .0)) (q .of (h .1));
+  }
+
+  abbrev pub d-either : Decides (either a b) (P ⊎ Q)
+  d-either = record {
+    to = λ e. ⊎-elim (λ x. inl (p .to x)) (λ y. inr (q .to y)) (either-to a b e);
+    of = λ h. ⊎-elim (λ x. either-left a b (p .of x)) (λ y. either-right a b (q .of y)) h;
+  }
+
+  abbrev pub d-implies : Decides (implies a b) (P → Q)
+  d-implies = record {
+    to = λ e h. q .to (implies-to a b e (p .of h));
+    of = λ f. implies-of a b (λ x. q .of (f (p .to x)));
+  }
+
+-- a choice by a test
+abbrev pub d-choose : (t : Bool) {a b : Bool} {P Q : Type 0} → Decides a P → Decides b Q → Decides (choose t a b) ((t ≡ true → P) × (t ≡ false → Q))
+d-choose t {a} {b} {P} {Q} p q = record {
+  to = λ e. ((λ y. p .to (rw (yes! a b y) at e)), (λ n. q .to (rw (no! a b n) at e)));
+  of = λ h. choose-elim (λ x. x ≡ true) t a b (λ y. p .of (h .0 y)) (λ n. q .of (h .1 n));
+}
+
+abbrev pub d-not : {b : Bool} {P : Type 0} → Decides b P → Decides (not b) (P → ⊥)
+d-not {b} {P} p = record {
+  to = λ e h. true-false (p .of h) (not-to b e);
+  of = λ n. rw (not-so b (λ e. n (p .to e)));
+}
+
+-- the same test of another statement that says as much
+abbrev pub d-map : {b : Bool} {P Q : Type 0} → (P → Q) → (Q → P) → Decides b P → Decides b Q
+d-map f g p = record { to = λ e. f (p .to e); of = λ h. p .of (g h) }
+
+abbrev pub d-every : (n : ℕ) {f : ℕ → Bool} {P : ℕ → Type 0} → ((k : ℕ) → Decides (f k) (P k)) → Decides (every f n) ((k : ℕ) → k < n → P k)
+d-every n {f} {P} p = record {
+  to = λ e k h. p k .to (every-at f n e k h);
+  of = λ h. every-intro f n (λ k l. p k .of (h k l));
+}

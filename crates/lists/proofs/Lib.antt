@@ -1,0 +1,6 @@
+pub mod Choice
+pub mod Decides
+pub mod Places
+pub mod Counts
+pub mod Maps
+pub mod Bytes
