@@ -14,6 +14,7 @@ pub mod Changes
 pub mod Decision
 pub mod Arguments
 pub mod Calls
+pub mod Granted
 -- "Tokens and translation"
 pub mod Tokens
 pub mod Translation

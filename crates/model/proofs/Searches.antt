@@ -1,0 +1,152 @@
+-- What the searches find. Assumes nothing.
+use Prim.Native.Nat.{ℕ, _+_, _≤_, _<_}
+use mathlib.Core.Bool.{Bool, true, false, not}
+use mathlib.Core.List.{List}
+use mathlib.Core.Logic.{_≢_}
+use mathlib.Core.Path.{_≡_, refl, sym, ap, _∙_}
+use native.Mathlib.Decide.{decLe}
+use native.Mathlib.Omega.{arith}
+use lib.Dec.{eqb, leb}
+use lib.ListN.{length, getD, List·getD-eq-default}
+use borrow.Author.Tests.{eqb-true, eqb-false, eq-eqb, ne-eqb, leb-true, le-leb, ltb-true, lt-ltb}
+use Rattle.lists.specs.Choice.{both, implies}
+use Rattle.lists.specs.Places.{every, lowest, count}
+use Rattle.lists.proofs.Choice.{true-false, not-to, not-of, not-so, both-left, both-right, both-intro, implies-to, implies-of}
+use Rattle.lists.proofs.Places.{every-at, every-intro, lowest-le, lowest-holds, lowest-least, lowest-bound}
+use Rattle.lists.proofs.Counts.{count-found}
+use Rattle.model.specs.declared.Entry.{Entry}
+use Rattle.model.specs.declared.Guest.{Guest}
+use Rattle.model.specs.declared.Space.{Space}
+use Rattle.model.specs.declared.Standing.{Standing}
+use Rattle.model.specs.declared.Standing.the-variants.{Unused, Valid, Revoked}
+use Rattle.model.specs.declared.State.{State}
+use Rattle.model.specs.Frames.{Layout, layout, frameOf, frameFree}
+use Rattle.model.specs.Names.{baseName}
+use Rattle.model.specs.Searches.{enrolled, isSpace, isOwned, isNamed, isPrimary, slotOf, slotNamed, primarySlot, primaries, freeSlot, runFree, freeRun, isUnused, freeEntry}
+use Rattle.model.specs.Sound.{Live, IsGuest, IsEntry, SpacesOk, GuestsOk}
+use Rattle.model.specs.Tables.{noSpace, spaceAt, live, guestAt, entryAt}
+
+-- live spaces
+pub live-to : (x : Space) → live x ≡ true → 1 ≤ x .id
+live-to x e = let n : x .id ≢ 0 = eqb-false (x .id) 0 (not-to (eqb (x .id) 0) e) in omega arith
+
+pub live-of : (x : Space) → 1 ≤ x .id → live x ≡ true
+live-of x h = not-of (eqb (x .id) 0) (ne-eqb (x .id) 0 (λ e. omega arith))
+
+pub not-live : (x : Space) → live x ≡ false → x .id ≡ 0
+not-live x e = eqb-true (x .id) 0 (go (eqb (x .id) 0) e)
+  where
+    go : (b : Bool) → not b ≡ false → b ≡ true
+    go true f = refl
+    go false f = sym f
+
+pub live-slot : (ss : List Space) (u n : ℕ) → length ss ≡ n → Live ss u → u < n
+live-slot ss u n len h = go (decLe n u)
+  where
+    go : Dec (n ≤ u) → u < n
+    go (yes l) = absurd (omega (arith, ap (λ (x : Space). x .id) (List·getD-eq-default ss noSpace {n = u} (omega arith))))
+    go (no l) = omega arith
+
+-- enrolled guests
+module _ (gs : List Guest) (g : ℕ) where
+  pub enrolled-guest : enrolled gs g ≡ true → IsGuest g
+  unfolding enrolled
+  enrolled-guest e =
+      let r = both-left (both (leb 1 g) (leb g 8)) (guestAt gs g .enrolled) e in
+      record { low = leb-true 1 g (both-left (leb 1 g) (leb g 8) r); high = leb-true g 8 (both-right (leb 1 g) (leb g 8) r) }
+
+  pub enrolled-is : enrolled gs g ≡ true → guestAt gs g .enrolled ≡ true
+  unfolding enrolled
+  enrolled-is e = both-right (both (leb 1 g) (leb g 8)) (guestAt gs g .enrolled) e
+
+  pub enrolled-of : IsGuest g → guestAt gs g .enrolled ≡ true → enrolled gs g ≡ true
+  unfolding enrolled
+  enrolled-of i e = both-intro _ _ (both-intro _ _ (le-leb 1 g (i .low)) (le-leb g 8 (i .high))) e
+
+-- a space by its identification
+module _ (ss : List Space) where
+  is-space-to : (i u : ℕ) → isSpace i (spaceAt ss u) ≡ true → Live ss u × (spaceAt ss u .id ≡ i)
+  is-space-to i u e = (live-to (spaceAt ss u) (both-left _ _ e), eqb-true _ i (both-right (live (spaceAt ss u)) _ e))
+
+  is-space-of : (u : ℕ) → Live ss u → isSpace (spaceAt ss u .id) (spaceAt ss u) ≡ true
+  is-space-of u l = both-intro _ _ (live-of (spaceAt ss u) l) (eq-eqb (spaceAt ss u .id) _ refl)
+
+  pub slot-found : (i : ℕ) → slotOf ss i < 32 → Live ss (slotOf ss i) × (spaceAt ss (slotOf ss i) .id ≡ i)
+  unfolding slotOf
+  slot-found i h = is-space-to i (slotOf ss i) (lowest-holds (λ u. isSpace i (spaceAt ss u)) 32 h)
+
+  pub slot-lt : (u : ℕ) → u < 32 → Live ss u → slotOf ss (spaceAt ss u .id) < 32
+  unfolding slotOf
+  slot-lt u h l = omega (arith, lowest-bound (λ v. isSpace (spaceAt ss u .id) (spaceAt ss v)) 32 u (is-space-of u l))
+
+  -- a space by its owner and name
+  is-named-to : (g n u : ℕ) → isNamed g n (spaceAt ss u) ≡ true → Live ss u × (spaceAt ss u .owner ≡ g) × (spaceAt ss u .name ≡ n)
+  is-named-to g n u e =
+      let o = both-left (isOwned g (spaceAt ss u)) (eqb (spaceAt ss u .name) n) e in
+      (live-to (spaceAt ss u) (both-left (live (spaceAt ss u)) _ o), eqb-true _ g (both-right (live (spaceAt ss u)) _ o), eqb-true _ n (both-right (isOwned g (spaceAt ss u)) _ e))
+
+  pub is-named-of : (g n u : ℕ) → Live ss u → spaceAt ss u .owner ≡ g → spaceAt ss u .name ≡ n → isNamed g n (spaceAt ss u) ≡ true
+  is-named-of g n u l o e = both-intro _ _ (both-intro _ _ (live-of (spaceAt ss u) l) (eq-eqb _ g o)) (eq-eqb _ n e)
+
+  pub named-found : (g n : ℕ) → slotNamed ss g n < 32 → Live ss (slotNamed ss g n) × (spaceAt ss (slotNamed ss g n) .owner ≡ g) × (spaceAt ss (slotNamed ss g n) .name ≡ n)
+  unfolding slotNamed
+  named-found g n h = is-named-to g n (slotNamed ss g n) (lowest-holds (λ u. isNamed g n (spaceAt ss u)) 32 h)
+
+  pub named-none : (g n u : ℕ) → 32 ≤ slotNamed ss g n → u < 32 → Live ss u → spaceAt ss u .owner ≡ g → spaceAt ss u .name ≡ n → ⊥
+  unfolding slotNamed
+  named-none g n u h b l o e = omega (arith, lowest-bound (λ v. isNamed g n (spaceAt ss v)) 32 u (is-named-of g n u l o e))
+
+  -- a primary that is counted is found
+  pub primary-lt : (g : ℕ) → primaries ss g ≡ 1 → primarySlot ss g < 32
+  unfolding primaries primarySlot slotNamed
+  primary-lt g e = count-found (λ u. isPrimary g (spaceAt ss u)) 32 (omega arith)
+
+  -- the lowest free slot
+  pub free-slot : freeSlot ss < 32 → spaceAt ss (freeSlot ss) .id ≡ 0
+  unfolding freeSlot
+  free-slot h = not-live (spaceAt ss (freeSlot ss)) (not-to _ (lowest-holds (λ u. not (live (spaceAt ss u))) 32 h))
+
+-- in a sound state an identification names one slot
+pub slot-of : (F next : ℕ) (gs : List Guest) (ss : List Space) (l : Layout) → SpacesOk F next gs ss l → (u : ℕ) → Live ss u → slotOf ss (spaceAt ss u .id) ≡ u
+slot-of F next gs ss l ok u h =
+    let b : u < 32 = live-slot ss u 32 (ok .len) h in
+    let f = slot-found ss (spaceAt ss u .id) (slot-lt ss u b h) in
+    ok .id-own (slotOf ss (spaceAt ss u .id)) u (f .0) h (f .1)
+
+-- the lowest run of free frames
+module _ (s : State) (n : ℕ) where
+  run-inside : (f : ℕ) → runFree s n f ≡ true → f + n ≤ s .frames
+  unfolding runFree
+  run-inside f e = leb-true (f + n) (s .frames) (both-left _ _ e)
+
+  run-clear : (f k : ℕ) → runFree s n f ≡ true → k < n → frameFree (layout s) (s .spaces) (f + k) ≡ true
+  unfolding runFree
+  run-clear f k e h = every-at (λ j. frameFree (layout s) (s .spaces) (f + j)) n (both-right (leb (f + n) (s .frames)) _ e) k h
+
+  pub run-holds : freeRun s n < s .frames → runFree s n (freeRun s n) ≡ true
+  unfolding freeRun
+  run-holds h = lowest-holds (runFree s n) (s .frames) h
+
+  pub run-fits : freeRun s n < s .frames → freeRun s n + n ≤ s .frames
+  run-fits h = run-inside (freeRun s n) (run-holds h)
+
+  -- no live space has a frame of it
+  pub run-free : freeRun s n < s .frames → (u p k : ℕ) → u < 32 → Live (s .spaces) u → p < spaceAt (s .spaces) u .pages → k < n → frameOf (layout s) u p ≢ freeRun s n + k
+  unfolding frameFree
+  run-free h u p k b l p-lt k-lt e =
+      let x = spaceAt (s .spaces) u in
+      let a = run-clear (freeRun s n) k (run-holds h) k-lt in
+      let c = every-at (λ v. implies (live (spaceAt (s .spaces) v)) (every (λ q. not (eqb (frameOf (layout s) v q) (freeRun s n + k))) (spaceAt (s .spaces) v .pages))) 32 a u b in
+      let d = implies-to (live x) _ c (live-of x l) in
+      eqb-false _ _ (not-to _ (every-at (λ q. not (eqb (frameOf (layout s) u q) (freeRun s n + k))) (x .pages) d p p-lt)) e
+
+-- the lowest unused entry
+pub unused-is : (x : Standing) → isUnused x ≡ true → x ≡ Unused
+unfolding isUnused
+unused-is Unused e = refl
+unused-is (Valid u r) e = true-false refl (sym e)
+unused-is Revoked e = true-false refl (sym e)
+
+pub free-entry : (es : List Entry) (g l : ℕ) → freeEntry es g l < l → entryAt es g (freeEntry es g l + 2) .standing ≡ Unused
+unfolding freeEntry
+free-entry es g l h = unused-is _ (lowest-holds (λ k. isUnused (entryAt es g (k + 2) .standing)) l h)
