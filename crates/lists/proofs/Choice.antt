@@ -122,3 +122,8 @@ pub implies-of : (a b : Bool) → (a ≡ true → b ≡ true) → implies a b �
 unfolding implies
 implies-of true b f = f refl
 implies-of false b f = refl
+
+pub implies-not : (a b : Bool) → implies a b ≡ false → a ≡ true
+unfolding implies
+implies-not true b e = refl
+implies-not false b e = sym e

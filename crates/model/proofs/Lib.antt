@@ -1,2 +1,4 @@
 pub mod Cases
 pub mod Searches
+pub mod Verdict
+pub mod Refusals

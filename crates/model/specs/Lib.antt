@@ -15,6 +15,7 @@ pub mod Decision
 pub mod Arguments
 pub mod Calls
 pub mod Granted
+pub mod Verdict
 -- "Tokens and translation"
 pub mod Tokens
 pub mod Translation
