@@ -5,7 +5,7 @@ use mathlib.Core.Logic.{_≢_}
 use mathlib.Core.Path.{_≡_, refl, sym, ap, ap₂, _∙_}
 use native.Mathlib.Decide.{ℕ-discrete, decLe}
 use native.Mathlib.Omega.{arith}
-use lib.ListN.{length, getD, set, take, drop, length-set, length-take, length-drop, length-append, List·getD-append}
+use lib.ListN.{length, getD, set, take, drop, replicate, length-set, length-take, length-drop, length-append, List·getD-append}
 use lib.Seq.{getD-set-same, getD-set-other, ext-getD, getD-take, getD-drop, length-take-le, getD-append-add}
 use Rattle.lists.specs.Bytes.{over, part, put, get}
 use Rattle.lists.proofs.Maps.{at-set}
@@ -57,6 +57,13 @@ set-agree (x ∷ xs) (y ∷ ys) zero b zero l e = refl
 set-agree (x ∷ xs) (y ∷ ys) (suc q) b zero l e = e (λ z. omega arith)
 set-agree (x ∷ xs) (y ∷ ys) zero b (suc p) l e = e (λ z. omega arith)
 set-agree (x ∷ xs) (y ∷ ys) (suc q) b (suc p) l e = set-agree xs ys q b p (omega arith) (λ ne. e (λ z. ne (omega arith)))
+
+set-zero : (m : List ℕ) (q p : ℕ) → (p ≢ q → getD m p 0 ≡ 0) → getD (set m q 0) p 0 ≡ 0
+set-zero [] q p e = refl
+set-zero (x ∷ xs) zero zero e = refl
+set-zero (x ∷ xs) (suc q) zero e = e (λ z. omega arith)
+set-zero (x ∷ xs) zero (suc p) e = e (λ z. omega arith)
+set-zero (x ∷ xs) (suc q) (suc p) e = set-zero xs q p (λ ne. e (λ z. ne (omega arith)))
 
 module _ (pl : ℕ → ℕ) where
   pub length-put : (a : ℕ) (bs m : List ℕ) → length (put pl a bs m) ≡ length m
@@ -132,6 +139,21 @@ module _ (pl : ℕ → ℕ) where
       go : Dec (k ≡ a) → (k ≢ a → getD (put pl (a + 1) bs (set m₁ (pl a) b)) (pl k) 0 ≡ getD (put pl (a + 1) bs (set m₂ (pl a) b)) (pl k) 0)
           → getD (put pl (a + 1) bs (set m₁ (pl a) b)) (pl k) 0 ≡ getD (put pl (a + 1) bs (set m₂ (pl a) b)) (pl k) 0
       go (yes e) r = put-agree (a + 1) bs (set m₁ (pl a) b) (set m₂ (pl a) b) (pl k) l2 (set-agree m₁ m₂ (pl a) b (pl k) l (λ ne. absurd (ne (ap pl e))))
+      go (no ne) r = r ne
+
+  -- zeros written stay, and stand where they were written, inside the list or not
+  put-zeros-stay : (a n : ℕ) (m : List ℕ) (p : ℕ) → getD m p 0 ≡ 0 → getD (put pl a (replicate n 0) m) p 0 ≡ 0
+  unfolding put
+  put-zeros-stay a zero m p e = e
+  put-zeros-stay a (suc n) m p e = put-zeros-stay (a + 1) n (set m (pl a) 0) p (set-zero m (pl a) p (λ _. e))
+
+  pub put-zeros : (a n : ℕ) (m : List ℕ) (k : ℕ) → a ≤ k → k < a + n → getD (put pl a (replicate n 0) m) (pl k) 0 ≡ 0
+  unfolding put
+  put-zeros a zero m k h u = absurd (omega arith)
+  put-zeros a (suc n) m k h u = go (ℕ-discrete k a) (λ ne. put-zeros (a + 1) n (set m (pl a) 0) k (omega arith) (omega arith))
+    where
+      go : Dec (k ≡ a) → (k ≢ a → getD (put pl (a + 1) (replicate n 0) (set m (pl a) 0)) (pl k) 0 ≡ 0) → getD (put pl (a + 1) (replicate n 0) (set m (pl a) 0)) (pl k) 0 ≡ 0
+      go (yes e) r = put-zeros-stay (a + 1) n (set m (pl a) 0) (pl k) (set-zero m (pl a) (pl k) (λ ne. absurd (ne (ap pl e))))
       go (no ne) r = r ne
 
   -- a part of what is read

@@ -19,10 +19,12 @@ pub mod Verdict
 -- "Tokens and translation"
 pub mod Tokens
 pub mod Translation
+pub mod Through
 -- "A sound state": as statements, and as a Boolean
 pub mod Sound
 pub mod SoundTest
 -- "What the statements owe": answer, value, tables and every byte, call by call and over a list
 pub mod Step
+pub mod Lawful
 -- "Both sides of each edge"
 pub mod Cases

@@ -1,0 +1,22 @@
+-- Where the bytes of live spaces lie: inside scratch, and no two at one place. These two laws are all that anything else uses
+-- of how pages are laid out. Assumes nothing.
+use Prim.Native.Nat.{ℕ, _+_, _*_, _/_, _%_, _≤_, _<_}
+use mathlib.Core.List.{List}
+use mathlib.Core.Path.{_≡_, refl, sym, ap, _∙_}
+use native.Mathlib.Omega.{arith}
+use Rattle.model.specs.declared.Guest.{Guest}
+use Rattle.model.specs.declared.Space.{Space}
+use Rattle.model.specs.Frames.{Layout, frameOf, placeOf, sizeOf}
+use Rattle.model.specs.Sound.{Live, SpacesOk}
+use Rattle.model.specs.Tables.{spaceAt}
+
+module _ (F next : ℕ) (gs : List Guest) (ss : List Space) (l : Layout) (ok : SpacesOk F next gs ss l) where
+  pub place-inside : (u a : ℕ) → Live ss u → a < sizeOf ss u → placeOf l u a < F * 4096
+  unfolding placeOf
+  place-inside u a lu h = omega (arith, ok .inside u (a / 4096) lu (omega arith))
+
+  pub place-apart : (u v a b : ℕ) → Live ss u → Live ss v → a < sizeOf ss u → b < sizeOf ss v → placeOf l u a ≡ placeOf l v b → (u ≡ v) × (a ≡ b)
+  unfolding placeOf
+  place-apart u v a b lu lv ha hb e =
+      let q = ok .apart u v (a / 4096) (b / 4096) lu lv (omega arith) (omega arith) (omega arith) in
+      (q .0, omega (arith, q .1))
