@@ -8,7 +8,6 @@ use native.Mathlib.Omega.{arith}
 use lib.ListN.{length, getD, set, take, drop, replicate, length-set, length-take, length-drop, length-append, List·getD-append}
 use lib.Seq.{getD-set-same, getD-set-other, ext-getD, getD-take, getD-drop, length-take-le, getD-append-add}
 use Rattle.lists.specs.Bytes.{over, part, put, get}
-use Rattle.lists.proofs.Maps.{at-set}
 
 -- a part taken out, and a part replaced
 module _ {A : Type 0} where

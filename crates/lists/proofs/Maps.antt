@@ -1,13 +1,12 @@
 -- Laws of lists changed place by place. Assumes nothing.
 use Prim.Native.Nat.{ℕ, zero, suc, _+_, _≤_, _<_}
-use mathlib.Core.Bool.{Bool, true, false}
 use mathlib.Core.List.{List, [], _∷_}
 use mathlib.Core.Logic.{_≢_}
-use mathlib.Core.Path.{_≡_, refl, sym, ap, ap₂, _∙_}
-use native.Mathlib.Decide.{ℕ-discrete}
+use mathlib.Core.Path.{_≡_, refl, sym, ap, _∙_}
+use native.Mathlib.Decide.{ℕ-discrete, decLe}
 use native.Mathlib.Omega.{arith}
 use lib.Dec.{eqb}
-use lib.ListN.{length, getD, set, length-set}
+use lib.ListN.{length, getD, set, length-set, List·getD-eq-default}
 use lib.Seq.{getD-set-same, getD-set-other, ext-getD}
 use borrow.Author.Tests.{eq-eqb, ne-eqb}
 use Rattle.lists.specs.Choice.{choose}
@@ -41,6 +40,16 @@ module _ {A : Type 0} (f : ℕ → A → A) where
   pub getD-mapPlaces : (l : List A) (k : ℕ) (d : A) → k < length l → getD (mapPlaces f l) k d ≡ f k (getD l k d)
   unfolding mapPlaces
   getD-mapPlaces l k d h = getD-from 0 l k d h ∙ ap (λ n. f n (getD l k d)) (omega arith)
+
+-- what stands at any place; a place past the end reads as d, which the change leaves
+pub map-at : {A : Type 0} (f : ℕ → A → A) (l : List A) (d : A) → ((k : ℕ) → f k d ≡ d) → (k : ℕ) → getD (mapPlaces f l) k d ≡ f k (getD l k d)
+map-at f l d same k = go (decLe (length l) k)
+  where
+    go : Dec (length l ≤ k) → getD (mapPlaces f l) k d ≡ f k (getD l k d)
+    go (yes h) =
+        List·getD-eq-default (mapPlaces f l) d {n = k} (rw (length-mapPlaces f l) h)
+        ∙ sym (ap (f k) (List·getD-eq-default l d {n = k} h) ∙ same k)
+    go (no h) = getD-mapPlaces f l k d (omega arith)
 
 -- nothing changes
 pub map-same : {A : Type 0} (f : ℕ → A → A) (l : List A) (d : A) → ((k : ℕ) → k < length l → f k (getD l k d) ≡ getD l k d) → mapPlaces f l ≡ l

@@ -1,14 +1,13 @@
 -- Where the bytes of live spaces lie: inside scratch, and no two at one place. These two laws are all that anything else uses
 -- of how pages are laid out. Assumes nothing.
-use Prim.Native.Nat.{ℕ, _+_, _*_, _/_, _%_, _≤_, _<_}
+use Prim.Native.Nat.{ℕ, _*_, _/_, _<_}
 use mathlib.Core.List.{List}
-use mathlib.Core.Path.{_≡_, refl, sym, ap, _∙_}
+use mathlib.Core.Path.{_≡_}
 use native.Mathlib.Omega.{arith}
 use Rattle.model.specs.declared.Guest.{Guest}
 use Rattle.model.specs.declared.Space.{Space}
-use Rattle.model.specs.Frames.{Layout, frameOf, placeOf, sizeOf}
+use Rattle.model.specs.Frames.{Layout, placeOf, sizeOf}
 use Rattle.model.specs.Sound.{Live, SpacesOk}
-use Rattle.model.specs.Tables.{spaceAt}
 
 module _ (F next : ℕ) (gs : List Guest) (ss : List Space) (l : Layout) (ok : SpacesOk F next gs ss l) where
   pub place-inside : (u a : ℕ) → Live ss u → a < sizeOf ss u → placeOf l u a < F * 4096

@@ -1,8 +1,16 @@
 pub mod Cases
 pub mod Searches
+pub mod Entries
 pub mod Verdict
 pub mod Refusals
 pub mod Reached
 pub mod Addresses
 pub mod Clearing
 pub mod SpaceBytes
+pub mod Withdraw
+pub mod Reset
+pub mod Registers
+pub mod Tokens
+pub mod Rights
+pub mod Fresh
+pub mod Lawful

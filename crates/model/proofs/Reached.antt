@@ -1,48 +1,27 @@
 -- What translation reaches. Assumes nothing.
-use Prim.Native.Nat.{ℕ, _+_, _≤_, _<_}
-use mathlib.Core.Bool.{Bool, true, false, not}
-use mathlib.Core.Logic.{_≢_, _⊎_, inl, inr, ⊎-elim}
-use mathlib.Core.Path.{_≡_, refl, sym, ap, _∙_}
+use Prim.Native.Nat.{ℕ}
+use mathlib.Core.Bool.{true, not}
+use mathlib.Core.Logic.{_⊎_, inl, inr, ⊎-elim}
+use mathlib.Core.Path.{_≡_}
 use native.Mathlib.Omega.{arith}
-use lib.Dec.{leb, ltb, eqb}
-use borrow.Author.Tests.{eqb-true, eqb-false, ne-eqb, leb-false, ltb-false, not-false}
-use Rattle.lists.specs.Choice.{choose, both, either}
-use Rattle.lists.proofs.Choice.{not-of, both-yes, either-not-left, either-not-right, choose-elim}
+use lib.Dec.{eqb}
+use borrow.Author.Tests.{eqb-true, eqb-false, not-false}
+use Rattle.lists.proofs.Choice.{choose-elim}
 use Rattle.model.specs.declared.Right.{Right}
-use Rattle.model.specs.declared.Right.the-variants.{Read, Write}
 use Rattle.model.specs.declared.Standing.{Standing}
 use Rattle.model.specs.declared.Standing.the-variants.{Unused, Valid, Revoked}
 use Rattle.model.specs.declared.State.{State}
 use Rattle.model.specs.declared.Translation.{Translation}
-use Rattle.model.specs.declared.Translation.the-variants.{Reached, Refused}
+use Rattle.model.specs.declared.Translation.the-variants.{Reached}
 use Rattle.model.specs.Names.{baseName}
 use Rattle.model.specs.Searches.{enrolled, primarySlot}
-use Rattle.model.specs.Sound.{Live, IsGuest, IsEntry, Sound}
-use Rattle.model.specs.Tables.{guestAt, entryAt}
-use Rattle.model.specs.Tokens.{malformed, assigned, entryNumber, upperHalf}
+use Rattle.model.specs.Sound.{Live, Sound}
+use Rattle.model.specs.Tables.{guestAt}
+use Rattle.model.specs.Tokens.{malformed, assigned, entryNumber}
 use Rattle.model.specs.Translation.{throughStanding, translate}
 use Rattle.model.specs.Through.{ThroughPrimary, ThroughEntry}
 use Rattle.model.proofs.Searches.{enrolled-guest, primary-lt, named-found}
-
--- a token that is not 0 and not malformed has an entry number of a list, and no leftmost byte
-pub record Formed (t : ℕ) : Type 0 where
-  pub byte : t < 16777216
-  pub entry : IsEntry (entryNumber t)
-
-pub formed : (t : ℕ) → t ≢ 0 → malformed t ≡ false → Formed t
-unfolding malformed
-formed t z e =
-    let h = either-not-right (leb 16777216 t) (either (ltb (entryNumber t) 2) (ltb 31 (entryNumber t))) f in
-    record {
-      byte = leb-false 16777216 t (either-not-left (leb 16777216 t) (either (ltb (entryNumber t) 2) (ltb 31 (entryNumber t))) f);
-      entry = record {
-        low = ltb-false _ 2 (either-not-left (ltb (entryNumber t) 2) (ltb 31 (entryNumber t)) h);
-        high = ltb-false 31 _ (either-not-right (ltb (entryNumber t) 2) (ltb 31 (entryNumber t)) h);
-      };
-    }
-  where
-    f : either (leb 16777216 t) (either (ltb (entryNumber t) 2) (ltb 31 (entryNumber t))) ≡ false
-    f = sym (both-yes _ (not-of (eqb t 0) (ne-eqb t 0 z))) ∙ e
+use Rattle.model.proofs.Tokens.{formed}
 
 through-valid : (x : Standing) (u : ℕ) (r : Right) → throughStanding x ≡ Reached u r → x ≡ Valid u r
 unfolding throughStanding

@@ -1,13 +1,11 @@
 -- A refused call changes nothing, every answer is one that its call's row lists, and check 1 comes first. Assumes nothing.
-use Prim.Native.Nat.{ℕ, _*_}
-use mathlib.Core.Bool.{Bool, true, false}
+use Prim.Native.Nat.{ℕ}
+use mathlib.Core.Bool.{true, false}
 use mathlib.Core.Logic.{_≢_}
 use mathlib.Core.Path.{_≡_, refl, sym, ap, _∙_}
-use native.Mathlib.Omega.{arith}
-use lib.Dec.{eqb}
 use lib.ListN.{length}
-use borrow.Author.Tests.{eqb-true, eqb-false, eq-eqb, ne-eqb}
-use Rattle.lists.specs.Choice.{either, both}
+use borrow.Author.Tests.{eq-eqb}
+use Rattle.lists.specs.Choice.{either}
 use Rattle.lists.proofs.Choice.{true-false}
 use Rattle.model.specs.declared.Answer.{Answer}
 use Rattle.model.specs.declared.Answer.the-variants.{Done, Unsound, BadCaller, Limit, NameTaken, NoSpace, NotOwner, NoSharing, AllowanceUsed, SlotsUsed, NoRun, NoIdentification, NotPermitted, ListFull, AletSpecification, AlenTranslation, AddressingCapability, Addressing, Protection, SpecialOperation, PrimarySpace, LineNotRead}
@@ -18,10 +16,10 @@ use Rattle.model.specs.declared.Operation.the-variants.{Enrol, Create, D
 use Rattle.model.specs.declared.State.{State}
 use Rattle.model.specs.Answers.{number, value}
 use Rattle.model.specs.Calls.{decide, ready}
-use Rattle.model.specs.Decision.{Decision, none, refuse, accept, check}
+use Rattle.model.specs.Decision.{Decision, refuse, check}
 use Rattle.model.specs.Granted.{Performed, Granted}
-use Rattle.model.specs.Step.{Machine, Issue, Outcome, decision, outcome, step, scratchAfter, bufferAfter}
-use Rattle.model.specs.Verdict.{row, listed, Refusal, Verdict, refused, granted}
+use Rattle.model.specs.Step.{Machine, Issue, outcome, step, scratchAfter, bufferAfter}
+use Rattle.model.specs.Verdict.{row, listed, Verdict, refused, granted}
 use Rattle.model.proofs.Verdict.{verdict}
 
 -- a done call's answer

@@ -3,16 +3,16 @@ use Prim.Native.Nat.{ℕ, _+_, _≤_, _<_}
 use mathlib.Core.Bool.{Bool, true, false, not}
 use mathlib.Core.List.{List}
 use mathlib.Core.Logic.{_≢_}
-use mathlib.Core.Path.{_≡_, refl, sym, ap, _∙_}
+use mathlib.Core.Path.{_≡_, refl, sym, ap}
 use native.Mathlib.Decide.{decLe}
 use native.Mathlib.Omega.{arith}
 use lib.Dec.{eqb, leb}
-use lib.ListN.{length, getD, List·getD-eq-default}
-use borrow.Author.Tests.{eqb-true, eqb-false, eq-eqb, ne-eqb, leb-true, le-leb, ltb-true, lt-ltb}
+use lib.ListN.{length, List·getD-eq-default}
+use borrow.Author.Tests.{eqb-true, eqb-false, eq-eqb, ne-eqb, leb-true, le-leb}
 use Rattle.lists.specs.Choice.{both, implies}
-use Rattle.lists.specs.Places.{every, lowest, count}
-use Rattle.lists.proofs.Choice.{true-false, not-to, not-of, not-so, both-left, both-right, both-intro, implies-to, implies-of}
-use Rattle.lists.proofs.Places.{every-at, every-intro, lowest-le, lowest-holds, lowest-least, lowest-bound}
+use Rattle.lists.specs.Places.{every}
+use Rattle.lists.proofs.Choice.{true-false, not-to, not-of, both-left, both-right, both-intro, implies-to}
+use Rattle.lists.proofs.Places.{every-at, lowest-holds, lowest-bound}
 use Rattle.lists.proofs.Counts.{count-found}
 use Rattle.model.specs.declared.Entry.{Entry}
 use Rattle.model.specs.declared.Guest.{Guest}
@@ -21,9 +21,8 @@ use Rattle.model.specs.declared.Standing.{Standing}
 use Rattle.model.specs.declared.Standing.the-variants.{Unused, Valid, Revoked}
 use Rattle.model.specs.declared.State.{State}
 use Rattle.model.specs.Frames.{Layout, layout, frameOf, frameFree}
-use Rattle.model.specs.Names.{baseName}
 use Rattle.model.specs.Searches.{enrolled, isSpace, isOwned, isNamed, isPrimary, slotOf, slotNamed, primarySlot, primaries, freeSlot, runFree, freeRun, isUnused, freeEntry}
-use Rattle.model.specs.Sound.{Live, IsGuest, IsEntry, SpacesOk, GuestsOk}
+use Rattle.model.specs.Sound.{Live, IsGuest, SpacesOk}
 use Rattle.model.specs.Tables.{noSpace, spaceAt, live, guestAt, entryAt}
 
 -- live spaces

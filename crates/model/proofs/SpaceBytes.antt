@@ -1,15 +1,15 @@
 -- The bytes of a space: what a fetch reads, what a store and a clearing change, and that all other live spaces keep theirs.
 -- Assumes nothing.
-use Prim.Native.Nat.{ℕ, _+_, _-_, _*_, _/_, _%_, _≤_, _<_}
-use mathlib.Core.List.{List, [], _∷_}
+use Prim.Native.Nat.{ℕ, _+_, _-_, _*_, _/_, _≤_, _<_}
+use mathlib.Core.List.{List}
 use mathlib.Core.Logic.{_≢_}
-use mathlib.Core.Path.{_≡_, refl, sym, ap, _∙_}
+use mathlib.Core.Path.{_≡_, sym, ap, _∙_}
 use native.Mathlib.Decide.{decLe}
 use native.Mathlib.Omega.{arith}
 use lib.ListN.{length, getD, replicate, length-replicate, getD-replicate}
 use lib.Seq.{ext-getD}
 use Rattle.lists.specs.Bytes.{over, part, put, get}
-use Rattle.lists.proofs.Bytes.{length-put, length-get, getD-get, get-part, get-put, get-agree, put-off, put-on, length-over, over-before, over-inside, over-after}
+use Rattle.lists.proofs.Bytes.{length-get, getD-get, get-part, get-put, get-agree, put-off, put-on, length-over, over-before, over-inside, over-after}
 use Rattle.lists.proofs.Maps.{length-placesFrom, getD-placesFrom}
 use Rattle.model.specs.declared.State.{State}
 use Rattle.model.specs.Frames.{layout, frameOf, placeOf, sizeOf, bytesOf, framesOf}

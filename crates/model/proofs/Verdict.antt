@@ -1,12 +1,12 @@
 -- Every call's verdict: one law over all calls, from one law about a check. Assumes nothing.
-use Prim.Native.Nat.{ℕ, _+_, _≤_, _<_}
+use Prim.Native.Nat.{ℕ, _+_, _≤_}
 use mathlib.Core.Bool.{Bool, true, false, not}
 use mathlib.Core.List.{List, [], _∷_}
-use mathlib.Core.Path.{_≡_, refl, sym, ap, _∙_}
+use mathlib.Core.Path.{_≡_, refl}
 use native.Mathlib.Omega.{arith}
 use lib.Dec.{leb, ltb, eqb}
 use borrow.Author.Tests.{eqb-true, eqb-false, eq-eqb, leb-true, ltb-true}
-use Rattle.lists.specs.Choice.{choose, both, either, implies}
+use Rattle.lists.specs.Choice.{both, either, implies}
 use Rattle.lists.proofs.Choice.{true-false, not-to, both-left, both-right, either-not-left, either-not-right, implies-to, implies-not, choose-elim}
 use Rattle.model.specs.declared.Answer.{Answer}
 use Rattle.model.specs.declared.Answer.the-variants.{Unsound, BadCaller, Limit, NameTaken, NoSpace, NotOwner, NoSharing, AllowanceUsed, SlotsUsed, NoRun, NoIdentification, NotPermitted, ListFull, AletSpecification, AlenTranslation, AddressingCapability, Addressing, Protection, SpecialOperation, PrimarySpace}
@@ -15,7 +15,7 @@ use Rattle.model.specs.declared.Caller.{Caller}
 use Rattle.model.specs.declared.Operation.{Operation}
 use Rattle.model.specs.declared.Operation.the-variants.{Enrol, Create, Destroy, Permit, Isolate, Query, Add, Remove, Load, Mode, Fetch, Store, Reset}
 use Rattle.model.specs.declared.Right.{Right}
-use Rattle.model.specs.declared.Right.the-variants.{Read, Write}
+use Rattle.model.specs.declared.Right.the-variants.{Read}
 use Rattle.model.specs.declared.Standing.{Standing}
 use Rattle.model.specs.declared.Standing.the-variants.{Unused, Valid, Revoked}
 use Rattle.model.specs.declared.State.{State}
@@ -23,16 +23,16 @@ use Rattle.model.specs.declared.Translation.{Translation}
 use Rattle.model.specs.declared.Translation.the-variants.{Reached, Refused}
 use Rattle.model.specs.Answers.{number}
 use Rattle.model.specs.Arguments.{Argument, arguments, checkAll}
-use Rattle.model.specs.Calls.{made, making, withEnrolled, enrol, create, owning, destroy, permit, isolate, entitled, query, add, remove, load, mode, writes, accessAt, access, target, fetching, storing, reset, perform, goodCaller, ready, decide}
+use Rattle.model.specs.Calls.{made, making, withEnrolled, enrol, create, owning, destroy, permit, isolate, entitled, query, add, remove, load, mode, writes, accessAt, access, target, fetching, storing, reset, perform, goodCaller, judge, ready, decide}
 use Rattle.model.specs.Decision.{Decision, Effect, fetch, store, refuse, accept, check}
 use Rattle.model.specs.Frames.{sizeOf}
-use Rattle.model.specs.Granted.{Made, Created, Owning, Destroyed, Permitted, Isolated, Queried, Added, Removed, Loaded, ModeSet, Accessed, ResetDone, Performed, AllFit, Granted}
+use Rattle.model.specs.Granted.{Made, Owning, Accessed, Performed, AllFit, Granted}
 use Rattle.model.specs.Names.{baseName}
-use Rattle.model.specs.Searches.{slotOf, slotNamed, dataSpaces, freeSlot, freeRun, freeEntry, primarySlot}
+use Rattle.model.specs.Searches.{slotOf, slotNamed, dataSpaces, freeSlot, freeRun, freeEntry}
 use Rattle.model.specs.Tables.{spaceAt, guestAt, entryAt}
 use Rattle.model.specs.Tokens.{malformed, assigned, entryNumber}
 use Rattle.model.specs.Translation.{throughStanding, translate}
-use Rattle.model.specs.Verdict.{row, ownRow, listed, Refusal, Verdict, refused, granted}
+use Rattle.model.specs.Verdict.{row, ownRow, listed, Verdict, refused, granted}
 
 -- a check refuses with its own answer, or the rest decides
 pub check-verdict : (s : State) (row : List ℕ) (Good : Decision → Type 0) (b : Bool) (a : Answer) (d : Decision)
@@ -184,7 +184,7 @@ module _ (s : State) (c : Caller) where
 
 -- Every call, on every state, with every argument and buffer.
 pub verdict : (s : State) (m : ℕ) (k : Call) (n : ℕ) → Verdict s (row (k .operation)) (Granted s m k n) (decide s m k n)
-unfolding decide number row listed either
+unfolding decide judge number row listed either
 verdict s m k n =
     check-verdict s _ _ (ready s m) Unsound _ refl refl (λ e1.
     check-verdict s _ _ (goodCaller s (k .caller) (k .operation)) BadCaller _ refl refl (λ e2.

@@ -4,7 +4,7 @@ use Prim.Native.Nat.{ℕ}
 use mathlib.Core.Bool.{Bool, not}
 use mathlib.Core.List.{List, [], _∷_}
 use lib.Dec.{leb, eqb}
-use Rattle.lists.specs.Choice.{both, either}
+use Rattle.lists.specs.Choice.{both}
 use Rattle.model.specs.declared.Answer.the-variants.{Limit}
 use Rattle.model.specs.declared.Caller.{Caller}
 use Rattle.model.specs.declared.Guest.{Guest}
@@ -16,7 +16,7 @@ use Rattle.model.specs.declared.State.{State}
 use Rattle.model.specs.Decision.{Decision, check}
 use Rattle.model.specs.Names.{goodName}
 use Rattle.model.specs.Searches.{enrolled}
-use Rattle.model.specs.Sizes.{guestCount, maxPages, maxAllowance, maxList, registerCount, maxTransfer}
+use Rattle.model.specs.Sizes.{guestCount, maxPages, maxAllowance, maxList, maxTransfer}
 
 pub record Argument : Type 0 where
   pub fits : Bool

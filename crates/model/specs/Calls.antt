@@ -216,14 +216,17 @@ mayEnrol s g = both (both (leb 1 g) (leb g guestCount)) (not (guestAt (s .guests
 unfoldable pub goodCaller : State → Caller → Operation → Bool
 goodCaller s c k = choose (enrols k) (mayEnrol s (c .guest)) (enrolled (s .guests) (c .guest))
 
+-- Checks 2 and 3, and the call: what a caller that holds a sound state and its scratch is answered.
+unfoldable pub judge : State → Call → (buffer : ℕ) → Decision
+judge s k n =
+    check s (goodCaller s (k .caller) (k .operation)) BadCaller
+    (checkAll s (arguments (s .guests) (k .caller) (k .operation) n)
+    (perform s (k .caller) (k .operation) n))
+
 -- Check 1: "state not sound, or scratch length is not F x 4,096"
 unfoldable pub ready : State → (scratch : ℕ) → Bool
 ready s m = both (sound s) (eqb m (s .frames * frameSize))
 
 -- The decision on any call: "All check 1, then 2 first." Its type hands it no byte of scratch and none of a buffer.
 unfoldable pub decide : State → (scratch : ℕ) → Call → (buffer : ℕ) → Decision
-decide s m k n =
-    check s (ready s m) Unsound
-    (check s (goodCaller s (k .caller) (k .operation)) BadCaller
-    (checkAll s (arguments (s .guests) (k .caller) (k .operation) n)
-    (perform s (k .caller) (k .operation) n)))
+decide s m k n = check s (ready s m) Unsound (judge s k n)

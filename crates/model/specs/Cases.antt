@@ -1,7 +1,7 @@
 -- Paper 01, "Both sides of each edge": the cases marked P, and the case of the free frames, as one table. A case is a start
 -- state and calls with what each must answer; each goes through the whole decision, check 1 included.
 use Prim.Native.Nat.{ℕ, _*_}
-use mathlib.Core.Bool.{Bool, true, false}
+use mathlib.Core.Bool.{Bool, true}
 use mathlib.Core.List.{List, [], _∷_}
 use lib.ListN.{set}
 use lib.Dec.{eqb}
@@ -10,14 +10,13 @@ use Rattle.model.specs.declared.Call.{Call}
 use Rattle.model.specs.declared.Operation.{Operation}
 use Rattle.model.specs.declared.Operation.the-variants.{Enrol, Create, Add, Remove, Load, Mode, Fetch, Store}
 use Rattle.model.specs.declared.Right.the-variants.{Read, Write}
-use Rattle.model.specs.declared.Space.{Space}
 use Rattle.model.specs.declared.Standing.the-variants.{Valid}
 use Rattle.model.specs.declared.State.{State}
 use Rattle.model.specs.Answers.{number, value}
 use Rattle.model.specs.Calls.{decide}
 use Rattle.model.specs.Fresh.{emptyTables}
 use Rattle.model.specs.Names.{baseName}
-use Rattle.model.specs.Tables.{spaceAt, withNext, withSpaces, withGuests, withEntries}
+use Rattle.model.specs.Tables.{withSpaces, withGuests, withEntries}
 
 -- guest 1 makes a call with a buffer of `room` bytes, and it must answer so
 pub record Trial : Type 0 where

@@ -2,11 +2,11 @@
 -- That an array has its length, and a sequence 8 bits, is given by the types of the code; it stands here so that the
 -- definitions say all that they lean on.
 use Prim.Native.Nat.{ℕ, _+_, _≤_, _<_}
-use mathlib.Core.Bool.{Bool, true, false}
+use mathlib.Core.Bool.{true, false}
 use mathlib.Core.Logic.{_≢_, _⊎_}
 use mathlib.Core.List.{List}
 use mathlib.Core.Path.{_≡_}
-use lib.ListN.{length, getD}
+use lib.ListN.{length}
 use Rattle.model.specs.declared.Cpu.{Cpu}
 use Rattle.model.specs.declared.Entry.{Entry}
 use Rattle.model.specs.declared.Guest.{Guest}

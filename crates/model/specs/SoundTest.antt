@@ -1,6 +1,6 @@
 -- Paper 01, "A sound state", as a Boolean. It is proved true exactly for the states that are sound (proofs/SoundTest).
 use Prim.Native.Nat.{ℕ, _+_}
-use mathlib.Core.Bool.{Bool, true, false, not}
+use mathlib.Core.Bool.{Bool, true, not}
 use mathlib.Core.List.{List}
 use lib.ListN.{length, getD}
 use lib.Dec.{leb, ltb, eqb}
@@ -21,7 +21,7 @@ use Rattle.model.specs.Fresh.{framesInRange}
 use Rattle.model.specs.Names.{goodName}
 use Rattle.model.specs.Searches.{enrolled, isUnused, primaries, dataSpaces}
 use Rattle.model.specs.Sizes.{spentIdentification, maxAllowance, maxList, guestCount, slotCount, registerCount}
-use Rattle.model.specs.Tables.{spaceAt, live, guestAt, guestPlace, cpuAt, grantAt, entryAt}
+use Rattle.model.specs.Tables.{spaceAt, live, guestAt, cpuAt, grantAt, entryAt}
 
 -- "F in range; next identification 1 to 65,536."
 unfoldable pub headTest : (frames next : ℕ) → Bool

@@ -1,7 +1,7 @@
 -- Paper 01, "Tokens and translation", after host access-register translation in the ESA/XC manual: from the token used to
 -- a space and a right, or to the refusal that is due.
 use Prim.Native.Nat.{ℕ}
-use mathlib.Core.Bool.{Bool, not}
+use mathlib.Core.Bool.{not}
 use lib.Dec.{eqb}
 use Rattle.lists.specs.Choice.{choose}
 use Rattle.model.specs.declared.Answer.the-variants.{AletSpecification, AlenTranslation, AddressingCapability}

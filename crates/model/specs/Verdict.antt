@@ -1,7 +1,7 @@
 -- Every call ends in one of two ways: it is refused with an answer that its row in paper 01 lists, and nothing changes; or it
 -- is done, with all that answer 0 implies.
 use Prim.Native.Nat.{ℕ}
-use mathlib.Core.Bool.{Bool, true, false, not}
+use mathlib.Core.Bool.{Bool, true, false}
 use mathlib.Core.List.{List, [], _∷_}
 use mathlib.Core.Path.{_≡_}
 use lib.Dec.{eqb}
