@@ -2,4 +2,5 @@
 pub mod Choice
 pub mod Decides
 pub mod Places
+pub mod Lowest
 pub mod Bytes

@@ -1,6 +1,9 @@
 pub mod Cases
 pub mod Searches
 pub mod Entries
+pub mod Runs
+pub mod NewSpace
+pub mod Make
 pub mod Verdict
 pub mod Refusals
 pub mod Reached

@@ -1,5 +1,5 @@
 -- What the searches find. Assumes nothing.
-use Prim.Native.Nat.{ℕ, _+_, _≤_, _<_}
+use Prim.Native.Nat.{ℕ, _≤_, _<_}
 use mathlib.Core.Bool.{Bool, true, false, not}
 use mathlib.Core.List.{List}
 use mathlib.Core.Logic.{_≢_}
@@ -9,21 +9,18 @@ use native.Mathlib.Omega.{arith}
 use lib.Dec.{eqb, leb}
 use lib.ListN.{length, List·getD-eq-default}
 use borrow.Author.Tests.{eqb-true, eqb-false, eq-eqb, ne-eqb, leb-true, le-leb}
-use Rattle.lists.specs.Choice.{both, implies}
-use Rattle.lists.specs.Places.{every}
-use Rattle.lists.proofs.Choice.{true-false, not-to, not-of, both-left, both-right, both-intro, implies-to}
-use Rattle.lists.proofs.Places.{every-at, lowest-holds, lowest-bound}
+use Rattle.lists.specs.Choice.{both}
+use Rattle.lists.proofs.Choice.{true-false, not-to, not-of, both-left, both-right, both-intro}
+use Rattle.lists.proofs.Places.{lowest-holds, lowest-bound}
 use Rattle.lists.proofs.Counts.{count-found}
-use Rattle.model.specs.declared.Entry.{Entry}
 use Rattle.model.specs.declared.Guest.{Guest}
 use Rattle.model.specs.declared.Space.{Space}
 use Rattle.model.specs.declared.Standing.{Standing}
 use Rattle.model.specs.declared.Standing.the-variants.{Unused, Valid, Revoked}
-use Rattle.model.specs.declared.State.{State}
-use Rattle.model.specs.Frames.{Layout, layout, frameOf, frameFree}
-use Rattle.model.specs.Searches.{enrolled, isSpace, isOwned, isNamed, isPrimary, slotOf, slotNamed, primarySlot, primaries, freeSlot, runFree, freeRun, isUnused, freeEntry}
+use Rattle.model.specs.Frames.{Layout}
+use Rattle.model.specs.Searches.{enrolled, isSpace, isOwned, isNamed, isPrimary, slotOf, slotNamed, primarySlot, primaries, isUnused}
 use Rattle.model.specs.Sound.{Live, IsGuest, SpacesOk}
-use Rattle.model.specs.Tables.{noSpace, spaceAt, live, guestAt, entryAt}
+use Rattle.model.specs.Tables.{noSpace, spaceAt, live, guestAt}
 
 -- live spaces
 pub live-to : (x : Space) → live x ≡ true → 1 ≤ x .id
@@ -100,11 +97,6 @@ module _ (ss : List Space) where
   unfolding primaries primarySlot slotNamed
   primary-lt g e = count-found (λ u. isPrimary g (spaceAt ss u)) 32 (omega arith)
 
-  -- the lowest free slot
-  pub free-slot : freeSlot ss < 32 → spaceAt ss (freeSlot ss) .id ≡ 0
-  unfolding freeSlot
-  free-slot h = not-live (spaceAt ss (freeSlot ss)) (not-to _ (lowest-holds (λ u. not (live (spaceAt ss u))) 32 h))
-
 -- in a sound state an identification names one slot
 pub slot-of : (F next : ℕ) (gs : List Guest) (ss : List Space) (l : Layout) → SpacesOk F next gs ss l → (u : ℕ) → Live ss u → slotOf ss (spaceAt ss u .id) ≡ u
 slot-of F next gs ss l ok u h =
@@ -112,40 +104,9 @@ slot-of F next gs ss l ok u h =
     let f = slot-found ss (spaceAt ss u .id) (slot-lt ss u b h) in
     ok .id-own (slotOf ss (spaceAt ss u .id)) u (f .0) h (f .1)
 
--- the lowest run of free frames
-module _ (s : State) (n : ℕ) where
-  run-inside : (f : ℕ) → runFree s n f ≡ true → f + n ≤ s .frames
-  unfolding runFree
-  run-inside f e = leb-true (f + n) (s .frames) (both-left _ _ e)
-
-  run-clear : (f k : ℕ) → runFree s n f ≡ true → k < n → frameFree (layout s) (s .spaces) (f + k) ≡ true
-  unfolding runFree
-  run-clear f k e h = every-at (λ j. frameFree (layout s) (s .spaces) (f + j)) n (both-right (leb (f + n) (s .frames)) _ e) k h
-
-  pub run-holds : freeRun s n < s .frames → runFree s n (freeRun s n) ≡ true
-  unfolding freeRun
-  run-holds h = lowest-holds (runFree s n) (s .frames) h
-
-  pub run-fits : freeRun s n < s .frames → freeRun s n + n ≤ s .frames
-  run-fits h = run-inside (freeRun s n) (run-holds h)
-
-  -- no live space has a frame of it
-  pub run-free : freeRun s n < s .frames → (u p k : ℕ) → u < 32 → Live (s .spaces) u → p < spaceAt (s .spaces) u .pages → k < n → frameOf (layout s) u p ≢ freeRun s n + k
-  unfolding frameFree
-  run-free h u p k b l p-lt k-lt e =
-      let x = spaceAt (s .spaces) u in
-      let a = run-clear (freeRun s n) k (run-holds h) k-lt in
-      let c = every-at (λ v. implies (live (spaceAt (s .spaces) v)) (every (λ q. not (eqb (frameOf (layout s) v q) (freeRun s n + k))) (spaceAt (s .spaces) v .pages))) 32 a u b in
-      let d = implies-to (live x) _ c (live-of x l) in
-      eqb-false _ _ (not-to _ (every-at (λ q. not (eqb (frameOf (layout s) u q) (freeRun s n + k))) (x .pages) d p p-lt)) e
-
--- the lowest unused entry
+-- an unused standing
 pub unused-is : (x : Standing) → isUnused x ≡ true → x ≡ Unused
 unfolding isUnused
 unused-is Unused e = refl
 unused-is (Valid u r) e = true-false refl (sym e)
 unused-is Revoked e = true-false refl (sym e)
-
-pub free-entry : (es : List Entry) (g l : ℕ) → freeEntry es g l < l → entryAt es g (freeEntry es g l + 2) .standing ≡ Unused
-unfolding freeEntry
-free-entry es g l h = unused-is _ (lowest-holds (λ k. isUnused (entryAt es g (k + 2) .standing)) l h)

@@ -10,6 +10,7 @@ pub mod Fresh
 pub mod Answers
 -- "The calls, each with its order of checks"
 pub mod Searches
+pub mod Runs
 pub mod Changes
 pub mod Decision
 pub mod Arguments
