@@ -1,8 +1,9 @@
 -- Booleans with their meanings, put together as the Booleans are. Assumes nothing.
-use Prim.Native.Nat.{ℕ, _≤_, _<_}
+use Prim.Native.Nat.{ℕ, _+_, _-_, _≤_, _<_}
 use mathlib.Core.Bool.{Bool, true, false, not}
 use mathlib.Core.Logic.{_⊎_, inl, inr, ⊎-elim}
 use mathlib.Core.Path.{_≡_}
+use native.Mathlib.Omega.{arith}
 use lib.Dec.{leb, ltb, eqb}
 use borrow.Author.Tests.{eqb-true, ltb-true, leb-true, eq-eqb, le-leb, lt-ltb}
 use Rattle.lists.specs.Choice.{both, either, implies, choose}
@@ -45,11 +46,11 @@ module _ {a b : Bool} {P Q : Type 0} (p : Decides a P) (q : Decides b Q) where
     of = λ f. implies-of a b (λ x. q .of (f (p .to x)));
   }
 
--- a choice by a test
-abbrev pub d-choose : (t : Bool) {a b : Bool} {P Q : Type 0} → Decides a P → Decides b Q → Decides (choose t a b) ((t ≡ true → P) × (t ≡ false → Q))
-d-choose t {a} {b} {P} {Q} p q = record {
-  to = λ e. ((λ y. p .to (rw (yes! a b y) at e)), (λ n. q .to (rw (no! a b n) at e)));
-  of = λ h. choose-elim (λ x. x ≡ true) t a b (λ y. p .of (h .0 y)) (λ n. q .of (h .1 n));
+-- a choice by a test, where each side is decided under what the test says
+abbrev pub d-if : (t : Bool) {a b : Bool} {P Q : Type 0} → (t ≡ true → Decides a P) → (t ≡ false → Decides b Q) → Decides (choose t a b) ((t ≡ true → P) × (t ≡ false → Q))
+d-if t {a} {b} p q = record {
+  to = λ e. ((λ y. p y .to (rw (yes! a b y) at e)), (λ n. q n .to (rw (no! a b n) at e)));
+  of = λ h. choose-elim (λ x. x ≡ true) t a b (λ y. p y .of (h .0 y)) (λ n. q n .of (h .1 n));
 }
 
 abbrev pub d-not : {b : Bool} {P : Type 0} → Decides b P → Decides (not b) (P → ⊥)
@@ -67,3 +68,10 @@ d-every n {f} {P} p = record {
   to = λ e k h. p k .to (every-at f n e k h);
   of = λ h. every-intro f n (λ k l. p k .of (h k l));
 }
+
+-- numbers from m on, tested at the places from 0 on
+abbrev pub d-from : (m n : ℕ) {f : ℕ → Bool} {P : ℕ → Type 0} → ((k : ℕ) → Decides (f k) (P (k + m))) → Decides (every f n) ((i : ℕ) → m ≤ i → i < m + n → P i)
+d-from m n p = d-map
+    (λ h i l u. let e : i ≡ i - m + m = omega arith in rw e (h (i - m) (omega arith)))
+    (λ h k l. h (k + m) (omega arith) (omega arith))
+    (d-every n p)

@@ -5,3 +5,4 @@ pub mod Lowest
 pub mod Counts
 pub mod Maps
 pub mod Bytes
+pub mod Rules

@@ -1,6 +1,9 @@
 pub mod Cases
+pub mod Names
 pub mod Searches
 pub mod Entries
+pub mod SoundParts
+pub mod SoundTest
 pub mod Runs
 pub mod NewSpace
 pub mod Make
@@ -17,3 +20,5 @@ pub mod Tokens
 pub mod Rights
 pub mod Fresh
 pub mod Lawful
+pub mod Sound
+pub mod StoreFetch

@@ -1,6 +1,6 @@
 -- The searches for what is free find the lowest, and find none only where there is none, in every state, sound or not.
 -- Assumes nothing.
-use Prim.Native.Nat.{ℕ, _+_, _≤_, _<_}
+use Prim.Native.Nat.{ℕ, _+_, _<_}
 use mathlib.Core.Bool.{not}
 use mathlib.Core.List.{List}
 use mathlib.Core.Logic.{_≢_}
@@ -21,10 +21,7 @@ use Rattle.model.specs.Searches.{freeSlot, runFree, freeRun, isUnused, f
 use Rattle.model.specs.Sizes.{slotCount}
 use Rattle.model.specs.Sound.{Live}
 use Rattle.model.specs.Tables.{spaceAt, live, entryAt}
-use Rattle.model.proofs.Searches.{live-to, live-of, unused-is}
-
-d-live : (x : Space) → Decides (live x) (1 ≤ x .id)
-d-live x = record { to = live-to x; of = live-of x }
+use Rattle.model.proofs.Searches.{d-live, unused-is}
 
 d-unused : (x : Standing) → Decides (isUnused x) (x ≡ Unused)
 unfolding isUnused

@@ -10,6 +10,7 @@ use lib.Dec.{eqb, leb}
 use lib.ListN.{length, List·getD-eq-default}
 use borrow.Author.Tests.{eqb-true, eqb-false, eq-eqb, ne-eqb, leb-true, le-leb}
 use Rattle.lists.specs.Choice.{both}
+use Rattle.lists.specs.Decides.{Decides}
 use Rattle.lists.proofs.Choice.{true-false, not-to, not-of, both-left, both-right, both-intro}
 use Rattle.lists.proofs.Places.{lowest-holds, lowest-bound}
 use Rattle.lists.proofs.Counts.{count-found}
@@ -28,6 +29,9 @@ live-to x e = let n : x .id ≢ 0 = eqb-false (x .id) 0 (not-to (eqb (x .id) 0) 
 
 pub live-of : (x : Space) → 1 ≤ x .id → live x ≡ true
 live-of x h = not-of (eqb (x .id) 0) (ne-eqb (x .id) 0 (λ e. omega arith))
+
+pub d-live : (x : Space) → Decides (live x) (1 ≤ x .id)
+d-live x = record { to = live-to x; of = live-of x }
 
 pub not-live : (x : Space) → live x ≡ false → x .id ≡ 0
 not-live x e = eqb-true (x .id) 0 (go (eqb (x .id) 0) e)

@@ -3,6 +3,7 @@
 -- "Sizes"
 pub mod Sizes
 pub mod Names
+pub mod NameText
 pub mod Tables
 pub mod Frames
 pub mod Fresh

@@ -3,6 +3,7 @@
 -- scratch that the one before it returned or left. Each fetch or store has its own buffer".
 use Prim.Native.Nat.{ℕ, _+_, _*_}
 use mathlib.Core.List.{List, [], _∷_}
+use mathlib.Core.Path.{_≡_}
 use lib.ListN.{length, replicate}
 use Rattle.lists.specs.Bytes.{put, get}
 use Rattle.model.specs.declared.Answer.{Answer}
@@ -12,6 +13,7 @@ use Rattle.model.specs.Calls.{decide}
 use Rattle.model.specs.Decision.{Decision, Effect, none, clear, fetch, store}
 use Rattle.model.specs.Frames.{layout, placeOf}
 use Rattle.model.specs.Sizes.{frameSize}
+use Rattle.model.specs.Sound.{Sound}
 
 -- scratch with a frame filled with zeros
 unfoldable pub clearFrame : (frame : ℕ) → List ℕ → List ℕ
@@ -38,6 +40,11 @@ bufferAfter s (store u a) m b = b
 pub record Machine : Type 0 where
   pub tables : State
   pub scratch : List ℕ
+
+-- check 1 as a statement: the state is sound and scratch has F x 4,096 bytes
+pub record Ready (m : Machine) : Type 0 where
+  pub sound : Sound (m .tables)
+  pub room : length (m .scratch) ≡ m .tables .frames * frameSize
 
 -- a call with the buffer lent to it
 pub record Issue : Type 0 where
