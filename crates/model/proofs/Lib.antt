@@ -22,3 +22,4 @@ pub mod Fresh
 pub mod Lawful
 pub mod Sound
 pub mod StoreFetch
+pub mod Rules

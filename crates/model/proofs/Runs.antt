@@ -17,7 +17,7 @@ use Rattle.model.specs.declared.Standing.the-variants.{Unused}
 use Rattle.model.specs.declared.State.{State}
 use Rattle.model.specs.Frames.{Layout, layout, frameOf, frameFree}
 use Rattle.model.specs.Runs.{IsRun}
-use Rattle.model.specs.Searches.{freeSlot, runFree, freeRun, isUnused, freeEntry}
+use Rattle.model.specs.Searches.{freeSlot, runFree, runIn, freeRun, isUnused, freeEntry}
 use Rattle.model.specs.Sizes.{slotCount}
 use Rattle.model.specs.Sound.{Live}
 use Rattle.model.specs.Tables.{spaceAt, live, entryAt}
@@ -31,7 +31,7 @@ d-frame : (l : Layout) (ss : List Space) (f : ℕ) → Decides (frameFree l ss f
 unfolding frameFree
 d-frame l ss f = d-every slotCount (λ u. d-implies (d-live (spaceAt ss u)) (d-every (spaceAt ss u .pages) (λ p. d-not (d-eq (frameOf l u p) f))))
 
-d-run : (s : State) (n f : ℕ) → f < s .frames → Decides (runFree s n f) (IsRun s n f)
+d-run : (s : State) (n f : ℕ) → f < s .frames → Decides (runFree (s .frames) (layout s) (s .spaces) n f) (IsRun s n f)
 unfolding runFree
 d-run s n f b =
     d-map (λ h. record { start = b; inside = h .0; free = λ u p k a l q c. h .1 k c u a l p q }) (λ r. (r .inside, λ k c u a l p q. r .free u p k a l q c))
@@ -39,8 +39,8 @@ d-run s n f b =
 
 -- answer 10: "no run of that many neighbouring free frames exists"
 pub lowest-run : (s : State) (n : ℕ) → Lowest (IsRun s n) (s .frames) (freeRun s n)
-unfolding freeRun
-lowest-run s n = lowest-decided (runFree s n) (IsRun s n) (s .frames) (d-run s n)
+unfolding runIn
+lowest-run s n = lowest-decided (runFree (s .frames) (layout s) (s .spaces) n) (IsRun s n) (s .frames) (d-run s n)
 
 -- answer 9: "32 spaces live"
 pub lowest-slot : (ss : List Space) → Lowest (λ u. spaceAt ss u .id ≡ 0) slotCount (freeSlot ss)

@@ -28,5 +28,8 @@ pub mod SoundTest
 -- "What the statements owe": answer, value, tables and every byte, call by call and over a list
 pub mod Step
 pub mod Lawful
+-- what the code returns
+pub mod Replies
+pub mod Leaves
 -- "Both sides of each edge"
 pub mod Cases

@@ -12,7 +12,7 @@ use Rattle.model.specs.declared.Space.{Space}
 use Rattle.model.specs.declared.Standing.{Standing}
 use Rattle.model.specs.declared.Standing.the-variants.{Unused, Valid, Revoked}
 use Rattle.model.specs.declared.State.{State}
-use Rattle.model.specs.Frames.{frameFree, layout}
+use Rattle.model.specs.Frames.{Layout, frameFree, layout}
 use Rattle.model.specs.Names.{baseName}
 use Rattle.model.specs.Sizes.{slotCount, guestCount}
 use Rattle.model.specs.Tables.{spaceAt, live, guestAt, entryAt}
@@ -59,12 +59,15 @@ unfoldable pub freeSlot : List Space → ℕ
 freeSlot ss = lowest (λ u. not (live (spaceAt ss u))) slotCount
 
 -- n neighbouring free frames from f on, inside F
-unfoldable pub runFree : State → (pages first : ℕ) → Bool
-runFree s n f = both (leb (f + n) (s .frames)) (every (λ k. frameFree (layout s) (s .spaces) (f + k)) n)
+unfoldable pub runFree : (frames : ℕ) → Layout → List Space → (pages first : ℕ) → Bool
+runFree F l ss n f = both (leb (f + n) F) (every (λ k. frameFree l ss (f + k)) n)
 
 -- "the lowest run of free frames": where it starts, F where there is none
-unfoldable pub freeRun : State → (pages : ℕ) → ℕ
-freeRun s n = lowest (runFree s n) (s .frames)
+unfoldable pub runIn : (frames : ℕ) → Layout → List Space → (pages : ℕ) → ℕ
+runIn F l ss n = lowest (runFree F l ss n) F
+
+abbrev pub freeRun : State → (pages : ℕ) → ℕ
+freeRun s n = runIn (s .frames) (layout s) (s .spaces) n
 
 unfoldable pub isUnused : Standing → Bool
 isUnused Unused = true

@@ -1,0 +1,53 @@
+-- For search in the proofs of the calls' code: a chain of checks, one at a time. Assumes nothing.
+use Prim.Native.Nat.{ℕ, _-_, _≤_, _<_}
+use mathlib.Core.List.{List}
+use native.Mathlib.Omega.{arith}
+use Rattle.lists.proofs.Choice.{not-so, yes!, no! }
+use Rattle.model.specs.declared.Guest.{Guest}
+use Rattle.model.specs.Leaves.{callerPlace}
+use Rattle.model.specs.Searches.{enrolled}
+use Rattle.model.specs.Tables.{guestPlace}
+use Rattle.model.proofs.Searches.{enrolled-guest}
+use mathlib.Core.Bool.{Bool, true, false}
+use mathlib.Core.Path.{_≡_, refl, sym, ap, _∙_}
+use Rattle.model.specs.declared.Answer.{Answer}
+use Rattle.model.specs.declared.Reply.{Reply}
+use Rattle.model.specs.declared.State.{State}
+use Rattle.model.specs.Decision.{Decision, refuse, accept, check}
+use Rattle.model.specs.Replies.{reply, replied}
+
+pub check-yes : (s : State) {b : Bool} (a : Answer) (d : Decision) → b ≡ true → check s b a d ≡ d
+unfolding check
+check-yes s a d e = rw e
+
+pub check-no : (s : State) {b : Bool} (a : Answer) (d : Decision) → b ≡ false → check s b a d ≡ refuse s a
+unfolding check
+check-no s a d e = rw e
+
+pub go-on : (x : Reply) (s : State) (b : Bool) (a : Answer) (d : Decision) → b ≡ true → x ≡ replied d → x ≡ replied (check s b a d)
+go-on x s b a d e p = p ∙ ap replied (sym (check-yes s a d e))
+
+pub refuse-at : (s : State) (b : Bool) (a : Answer) (d : Decision) → b ≡ false → reply a s ≡ replied (check s b a d)
+unfolding replied
+refuse-at s b a d e = ap replied (sym (check-no s a d e))
+
+pub ruleset checks = (go-on, refuse-at)
+
+-- what the place of a caller tells
+pub place-no : (r : ℕ) (gs : List Guest) (g : ℕ) → r ≡ callerPlace gs g → 8 ≤ r → enrolled gs g ≡ false
+unfolding callerPlace
+place-no r gs g p h = not-so (enrolled gs g) (λ e. let q : r ≡ g - 1 = p ∙ yes! _ _ e in let i = enrolled-guest gs g e in omega arith)
+
+pub place-yes : (r : ℕ) (gs : List Guest) (g : ℕ) → r ≡ callerPlace gs g → r < 8 → enrolled gs g ≡ true
+unfolding callerPlace
+place-yes r gs g p h = not-false-true (enrolled gs g) (λ e. let q : r ≡ 8 = p ∙ no! _ _ e in omega arith)
+  where
+    not-false-true : (b : Bool) → (b ≡ false → ⊥) → b ≡ true
+    not-false-true true n = refl
+    not-false-true false n = absurd (n refl)
+
+pub place-is : (r : ℕ) (gs : List Guest) (g : ℕ) → r ≡ callerPlace gs g → r < 8 → r ≡ guestPlace g
+unfolding callerPlace
+place-is r gs g p h = p ∙ yes! _ _ (place-yes r gs g p h)
+
+pub ruleset places = (place-no, place-yes)
