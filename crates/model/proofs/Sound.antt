@@ -79,7 +79,7 @@ pub ready-of : (m : Machine) → Ready m → ready (m .tables) (length (m .scrat
 unfolding ready
 ready-of m r = both-intro _ _ (sound-decides (m .tables) .of (r .sound)) (eq-eqb _ _ (r .room))
 
-length-scratchAfter : (s : State) (e : Effect) (m b : List ℕ) → length (scratchAfter s e m b) ≡ length m
+pub length-scratchAfter : (s : State) (e : Effect) (m b : List ℕ) → length (scratchAfter s e m b) ≡ length m
 unfolding scratchAfter
 length-scratchAfter s none m b = refl
 length-scratchAfter s (clear fs) m b = length-clearFrames fs m

@@ -1,0 +1,74 @@
+-- The paper's own claim of the first half, as an instance of the general one. Assumes nothing.
+use Prim.Native.Nat.{ℕ}
+use mathlib.Core.Bool.{Bool}
+use mathlib.Core.List.{List, [], _∷_}
+use mathlib.Core.Path.{refl, sym, ap}
+use native.Mathlib.Omega.{arith}
+use lib.Dec.{eqb}
+use borrow.Author.Tests.{eqb-true, eqb-false, eq-eqb, ne-eqb}
+use Rattle.lists.proofs.Bytes.{get-agree}
+use Rattle.model.specs.declared.State.{State}
+use Rattle.model.specs.Frames.{layout, placeOf, sizeOf, bytesOf}
+use Rattle.model.specs.Sound.{Live, Sound}
+use Rattle.model.specs.Step.{Machine, Issue, step}
+use Rattle.model.specs.Tables.{spaceAt}
+use Rattle.model.proofs.SpaceBytes.{apart}
+use Rattle.isolation.specs.TwoRuns.{EqualOutside, Alike, Turn, Varied, SameCall, SameRuns, OutsideSpace, StoresVaried, SameOutside, AllSameOutside, Isolation}
+use Rattle.isolation.proofs.TwoRuns.{two-runs}
+
+-- the set of one space
+abbrev just : ℕ → ℕ → Bool
+just x = eqb x
+
+-- scratch that is equal outside one space has all other live spaces equal
+outside-equal : (s : State) → Sound s → (u : ℕ) (m₁ m₂ : List ℕ) → Live (s .spaces) u → OutsideSpace s u m₁ m₂ → EqualOutside (just (spaceAt (s .spaces) u .id)) s m₁ m₂
+unfolding bytesOf
+outside-equal s ok u m₁ m₂ lu o v lv n =
+    get-agree (placeOf (layout s) v) 0 (sizeOf (s .spaces) v) m₁ m₂ (λ k _ h.
+    o .bytes (placeOf (layout s) v k) (λ a b e.
+    eqb-false _ _ n (ap (λ w. spaceAt (s .spaces) w .id) (apart s ok u v a k lu lv b (omega arith) e .0))))
+
+-- the two lists as turns with that one set throughout
+turns : (id : ℕ) → (first second : List Issue) → List Turn
+turns x [] js = []
+turns x (i ∷ is) [] = []
+turns x (i ∷ is) (j ∷ js) = record { first = i; second = j; changed = just x } ∷ turns x is js
+
+turns-varied : (x : ℕ) (m : Machine) (first second : List Issue) → StoresVaried x m first second → Varied (just x) m (turns x first second)
+unfolding turns StoresVaried Varied
+turns-varied x m [] js v = tt
+turns-varied x m (i ∷ is) [] v = absurd v
+turns-varied x m (i ∷ is) (j ∷ js) v = (
+  (λ _ e. e),
+  record {
+    call = v .0 .call;
+    lengths = v .0 .lengths;
+    same = λ away. v .0 .same (λ r. away (record { id = x; reaches = r .1; inside = eq-eqb x x refl }));
+  },
+  turns-varied x (step m i .machine) is js (v .1),
+)
+
+same-outside : (x : ℕ) (m₁ m₂ : Machine) (i j : Issue) → SameCall (just x) m₁ m₂ i j → SameOutside x m₁ m₂ i j
+same-outside x m₁ m₂ i j c = record {
+  answer = c .answer;
+  value = c .value;
+  tables = c .alike .tables;
+  bytes = λ u l ne. c .alike .bytes u l (ne-eqb x _ (λ e. ne (sym e)));
+  buffer = λ away. c .buffer (λ r. away (rw (← (eqb-true x (r .id) (r .inside))) at (r .reaches)));
+}
+
+all-same : (x : ℕ) (first second : List Issue) (m₁ m₂ m : Machine) → StoresVaried x m first second → SameRuns m₁ m₂ (turns x first second) → AllSameOutside x m₁ m₂ first second
+unfolding turns SameRuns AllSameOutside StoresVaried
+all-same x [] [] m₁ m₂ m v r = tt
+all-same x [] (j ∷ js) m₁ m₂ m v r = v
+all-same x (i ∷ is) [] m₁ m₂ m v r = v
+all-same x (i ∷ is) (j ∷ js) m₁ m₂ m v r =
+    (same-outside x m₁ m₂ i j (r .0), all-same x is js (step m₁ i .machine) (step m₂ j .machine) (step m i .machine) (v .1) (r .1))
+
+pub isolation : Isolation
+isolation s scratch₁ scratch₂ u first second ready live outside varied =
+    let x = spaceAt (s .spaces) u .id in
+    let m₁ : Machine = record { tables = s; scratch = scratch₁ } in
+    let m₂ : Machine = record { tables = s; scratch = scratch₂ } in
+    let alike : Alike (just x) m₁ m₂ = record { tables = refl; room = outside .room; bytes = outside-equal s (ready .sound) u scratch₁ scratch₂ live outside } in
+    all-same x first second m₁ m₂ m₁ varied (two-runs (just x) (turns x first second) m₁ m₂ ready alike (turns-varied x m₁ first second varied))

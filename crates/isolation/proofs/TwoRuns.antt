@@ -1,0 +1,163 @@
+-- The first half of demand 3. The decision sees tables and lengths alone, so both runs decide alike; what is left is bytes:
+-- an effect touches only places of its own live space, and two live spaces share none. Assumes nothing.
+use Prim.Native.Nat.{ℕ, _+_, _*_, _/_, _%_}
+use mathlib.Core.Bool.{Bool, true, false}
+use mathlib.Core.List.{List, [], _∷_}
+use mathlib.Core.Logic.{_⊎_, inl, inr, ⊎-elim}
+use mathlib.Core.Path.{_≡_, refl, sym, ap, ap₂, fun-ext, _∙_}
+use native.Mathlib.Decide.{ℕ-discrete}
+use native.Mathlib.Omega.{arith}
+use lib.ListN.{length}
+use Rattle.lists.specs.Bytes.{over, part, put, get}
+use Rattle.lists.proofs.Choice.{true-false, not-so}
+use Rattle.model.specs.declared.Space.{Space}
+use Rattle.model.specs.declared.State.{State}
+use Rattle.model.specs.Answers.{number, value}
+use Rattle.model.specs.Decision.{Decision, Effect, none, clear, fetch, store}
+use Rattle.model.specs.Frames.{layout, placeOf, bytesOf, framesOf}
+use Rattle.model.specs.Lawful.{SameSpace, ClearsSpace, Inside, EffectInside, Lawful}
+use Rattle.model.specs.Sound.{Live, Sound}
+use Rattle.model.specs.Step.{Machine, Ready, Issue, decision, step, scratchAfter, bufferAfter, clearFrames}
+use Rattle.model.specs.Tables.{spaceAt}
+use Rattle.model.proofs.Lawful.{lawful}
+use Rattle.model.proofs.Sound.{ready-kept, length-scratchAfter}
+use Rattle.model.proofs.SpaceBytes.{clear-own, clear-other, store-own, store-other, fetch-bytes}
+use Rattle.isolation.specs.Reaches.{Reaches, ReachesIn}
+use Rattle.isolation.specs.TwoRuns.{EqualOutside, Alike, MayDiffer, Grows, Varied, SameCall, SameRuns, TwoRuns}
+use Rattle.isolation.proofs.Reaching.{touches, reaches-one}
+
+-- a space in the same frames has the same bytes
+same-bytes : (s t : State) (u : ℕ) (m : List ℕ) → SameSpace s t u → bytesOf t u m ≡ bytesOf s u m
+unfolding bytesOf placeOf
+same-bytes s t u m same =
+    ap₂ (λ (pl : ℕ → ℕ) (n : ℕ). get pl 0 n m)
+    (fun-ext (λ a. ap (λ f. f * 4096 + a % 4096) (same .frames (a / 4096))))
+    (ap (λ (x : Space). x .pages * 4096) (same .space))
+
+-- One decision on two scratch areas that agree outside X. `s` are the tables before it, `d` the decision.
+module _ (X : ℕ → Bool) (s : State) (d : Decision) (ok : Sound (d .after)) (b₁ b₂ m₁ m₂ : List ℕ) (law : Lawful s (length b₁) d)
+    (room₁ : length m₁ ≡ d .after .frames * 4096) (room₂ : length m₂ ≡ d .after .frames * 4096) (long : length b₁ ≡ length b₂)
+    (agree : EqualOutside X s m₁ m₂) where
+  abbrev t : State
+  t = d .after
+
+  -- a space live after it agreed before, or is cleared by it
+  before : (u : ℕ) → Live (t .spaces) u → X (spaceAt (t .spaces) u .id) ≡ false → (bytesOf t u m₁ ≡ bytesOf t u m₂) ⊎ ClearsSpace t (d .effect) u
+  before u l n = ⊎-elim (λ k. inl (kept k)) (λ c. inr c) (law .kept u l)
+    where
+      kept : SameSpace s t u → bytesOf t u m₁ ≡ bytesOf t u m₂
+      kept k = same-bytes s t u m₁ k ∙ agree u (k .live) (rw (k .space) at n) ∙ sym (same-bytes s t u m₂ k)
+
+  -- only a clearing clears
+  not-cleared : (e : Effect) → ((fs : List ℕ) → e ≡ clear fs → ⊥) → d .effect ≡ e → (u : ℕ) → Live (t .spaces) u → X (spaceAt (t .spaces) u .id) ≡ false → bytesOf t u m₁ ≡ bytesOf t u m₂
+  not-cleared e never is u l n = ⊎-elim (λ q. q) (λ (c : ClearsSpace t (d .effect) u). absurd (never (framesOf t u) (sym is ∙ c .all))) (before u l n)
+
+  -- R says that the call reaches a space of X: what it touches is the one space that it reaches
+  abbrev Touched : ℕ → ℕ → Type 0
+  Touched u a = (d .effect ≡ store u a) ⊎ (d .effect ≡ fetch u a)
+
+  module _ (R : Type 0) (reach : (u a : ℕ) → Touched u a → X (spaceAt (t .spaces) u .id) ≡ true → R)
+      (only : (u a : ℕ) → Touched u a → R → X (spaceAt (t .spaces) u .id) ≡ true) (same : (R → ⊥) → b₁ ≡ b₂) where
+    effect-bytes : (e : Effect) → d .effect ≡ e → EffectInside t (length b₁) e → EqualOutside X t (scratchAfter t e m₁ b₁) (scratchAfter t e m₂ b₂)
+    unfolding scratchAfter
+    effect-bytes none e i u l n = not-cleared none (λ fs z. let o : _≡_ {A = ℕ} 0 1 = cc in omega arith) e u l n
+    effect-bytes (fetch v a) e i u l n = not-cleared (fetch v a) (λ fs z. let o : _≡_ {A = ℕ} 0 1 = cc in omega arith) e u l n
+    effect-bytes (clear fs) e (v, c) u l n = ⊎-elim kept own (before u l n)
+      where
+        zeros : (w : ℕ) → fs ≡ framesOf t w → Live (t .spaces) w → bytesOf t w (clearFrames fs m₁) ≡ bytesOf t w (clearFrames fs m₂)
+        zeros w q lw = rw q (clear-own t ok w m₁ lw ∙ sym (clear-own t ok w m₂ lw))
+
+        own : ClearsSpace t (d .effect) u → bytesOf t u (clearFrames fs m₁) ≡ bytesOf t u (clearFrames fs m₂)
+        own k = zeros u (let z : clear fs ≡ clear (framesOf t u) = sym e ∙ k .all in cc) l
+
+        fs-is : fs ≡ framesOf t v
+        fs-is = let z : clear fs ≡ clear (framesOf t v) = c .all in cc
+
+        kept : bytesOf t u m₁ ≡ bytesOf t u m₂ → bytesOf t u (clearFrames fs m₁) ≡ bytesOf t u (clearFrames fs m₂)
+        kept q = go (ℕ-discrete u v)
+          where
+            go : Dec (u ≡ v) → bytesOf t u (clearFrames fs m₁) ≡ bytesOf t u (clearFrames fs m₂)
+            go (yes z) = rw z (zeros v fs-is (c .live))
+            go (no z) = rw fs-is (clear-other t ok v m₁ (c .live) u l z ∙ q ∙ sym (clear-other t ok v m₂ (c .live) u l z))
+    effect-bytes (store v a) e i u l n = go (ℕ-discrete u v)
+      where
+        old : bytesOf t u m₁ ≡ bytesOf t u m₂
+        old = not-cleared (store v a) (λ fs z. let o : _≡_ {A = ℕ} 0 1 = cc in omega arith) e u l n
+
+        i₂ : Inside t v a (length b₂)
+        i₂ = rw long at i
+
+        go : Dec (u ≡ v) → bytesOf t u (put (placeOf (layout t) v) a b₁ m₁) ≡ bytesOf t u (put (placeOf (layout t) v) a b₂ m₂)
+        go (yes q) =
+            rw q
+            (store-own t ok v a b₁ m₁ i room₁
+            ∙ ap₂ (λ x b. over x a b) (rw q at old) (same (λ r. true-false (only v a (inl e) r) (rw q at n)))
+            ∙ sym (store-own t ok v a b₂ m₂ i₂ room₂))
+        go (no q) = store-other t ok v a b₁ m₁ i u l q ∙ old ∙ sym (store-other t ok v a b₂ m₂ i₂ u l q)
+
+    -- the lent buffer, unless the call fetches from X
+    effect-buffer : (e : Effect) → d .effect ≡ e → EffectInside t (length b₁) e → (R → ⊥) → bufferAfter t e m₁ b₁ ≡ bufferAfter t e m₂ b₂
+    unfolding bufferAfter
+    effect-buffer none e i away = same away
+    effect-buffer (clear fs) e i away = same away
+    effect-buffer (store v a) e i away = same away
+    effect-buffer (fetch v a) e i away =
+        let n = not-so (X (spaceAt (t .spaces) v .id)) (λ x. away (reach v a (inr e) x)) in
+        let q = not-cleared (fetch v a) (λ fs z. let o : _≡_ {A = ℕ} 0 1 = cc in omega arith) e v (i .live) n in
+        rw (← long)
+        (fetch-bytes t ok v a (length b₁) m₁ i ∙ ap (λ x. part x a (length b₁)) q ∙ sym (fetch-bytes t ok v a (length b₁) m₂ i))
+
+-- One call.
+module _ (X : ℕ → Bool) (m₁ m₂ : Machine) (ready : Ready m₁) (alike : Alike X m₁ m₂) (i j : Issue) (may : MayDiffer X m₁ i j) where
+  abbrev d : Decision
+  d = decision m₁ i
+
+  same-decision : decision m₁ i ≡ decision m₂ j
+  same-decision = rw (alike .tables, alike .room, may .call, may .lengths) refl
+
+  after-ready : Ready (step m₁ i .machine)
+  after-ready = ready-kept m₁ i ready
+
+  -- a touched space is the one that is reached
+  touched-reach : (u a : ℕ) → (d .effect ≡ store u a) ⊎ (d .effect ≡ fetch u a) → Reaches m₁ i (spaceAt (d .after .spaces) u .id)
+  touched-reach u a (inl e) = rw e at (touches m₁ ready i)
+  touched-reach u a (inr e) = rw e at (touches m₁ ready i)
+
+  reach : (u a : ℕ) → (d .effect ≡ store u a) ⊎ (d .effect ≡ fetch u a) → X (spaceAt (d .after .spaces) u .id) ≡ true → ReachesIn X m₁ i
+  reach u a k x = record { id = spaceAt (d .after .spaces) u .id; reaches = touched-reach u a k; inside = x }
+
+  only : (u a : ℕ) → (d .effect ≡ store u a) ⊎ (d .effect ≡ fetch u a) → ReachesIn X m₁ i → X (spaceAt (d .after .spaces) u .id) ≡ true
+  only u a k r = ap X (reaches-one m₁ ready i (spaceAt (d .after .spaces) u .id) (r .id) (touched-reach u a k) (r .reaches)) ∙ r .inside
+
+  same-call : SameCall X m₁ m₂ i j
+  unfolding step
+  same-call =
+      let law = lawful (m₁ .tables) (length (m₁ .scratch)) (i .call) (length (i .buffer)) (ready .sound) in
+      let room₁ : length (m₁ .scratch) ≡ d .after .frames * 4096 = ready .room ∙ ap (λ f. f * 4096) (sym (law .frames)) in
+      let room₂ : length (m₂ .scratch) ≡ d .after .frames * 4096 = sym (alike .room) ∙ room₁ in
+      record {
+        answer = ap (λ (x : Decision). number (x .answer)) same-decision;
+        value = ap (λ (x : Decision). value (x .answer)) same-decision;
+        alike = record {
+          tables = ap (λ (x : Decision). x .after) same-decision;
+          room = length-scratchAfter _ (decision m₁ i .effect) (m₁ .scratch) (i .buffer) ∙ alike .room ∙ sym (length-scratchAfter _ (decision m₂ j .effect) (m₂ .scratch) (j .buffer));
+          bytes = rw (← same-decision) (effect-bytes X (m₁ .tables) d (after-ready .sound) (i .buffer) (j .buffer) (m₁ .scratch) (m₂ .scratch) law room₁ room₂ (may .lengths) (alike .bytes) (ReachesIn X m₁ i) reach only (may .same) (d .effect) refl (law .inside));
+        };
+        buffer = λ away. rw (← same-decision) (effect-buffer X (m₁ .tables) d (after-ready .sound) (i .buffer) (j .buffer) (m₁ .scratch) (m₂ .scratch) law room₁ room₂ (may .lengths) (alike .bytes) (ReachesIn X m₁ i) reach only (may .same) (d .effect) refl (law .inside) away);
+      }
+
+-- a larger set leaves less to agree
+alike-grown : (X Y : ℕ → Bool) (m₁ m₂ : Machine) → Grows X Y → Alike X m₁ m₂ → Alike Y m₁ m₂
+alike-grown X Y m₁ m₂ g a = record {
+  tables = a .tables;
+  room = a .room;
+  bytes = λ u l n. a .bytes u l (not-so (X (spaceAt (m₁ .tables .spaces) u .id)) (λ x. true-false (g (spaceAt (m₁ .tables .spaces) u .id) x) n));
+}
+
+-- Every call of the list.
+pub two-runs : TwoRuns
+unfolding Varied SameRuns
+two-runs X [] m₁ m₂ ready alike v = tt
+two-runs X (t ∷ ts) m₁ m₂ ready alike v =
+    let here : SameCall (t .changed) m₁ m₂ (t .first) (t .second) = same-call (t .changed) m₁ m₂ ready (alike-grown X (t .changed) m₁ m₂ (v .0) alike) (t .first) (t .second) (v .1) in
+    (here, two-runs (t .changed) ts (step m₁ (t .first) .machine) (step m₂ (t .second) .machine) (ready-kept m₁ (t .first) ready) (here .alike) (v .2))

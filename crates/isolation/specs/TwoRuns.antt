@@ -1,0 +1,127 @@
+-- "Isolation, over whole lists of calls": two runs of one list, which differ in the bytes of one space and in the data of
+-- stores that reach it. First the general claim, for a set of changed spaces that may grow from call to call; then the
+-- paper's own, for one space.
+use Prim.Native.Nat.{ℕ, _<_}
+use mathlib.Core.Bool.{Bool, true, false}
+use mathlib.Core.List.{List, [], _∷_}
+use mathlib.Core.Logic.{_≢_}
+use mathlib.Core.Path.{_≡_}
+use lib.ListN.{length, getD}
+use Rattle.model.specs.declared.Operation.{Operation}
+use Rattle.model.specs.declared.Operation.the-variants.{Enrol, Create, Destroy, Permit, Isolate, Query, Add, Remove, Load, Mode, Fetch, Store, Reset}
+use Rattle.model.specs.declared.State.{State}
+use Rattle.model.specs.Answers.{number, value}
+use Rattle.model.specs.Frames.{layout, placeOf, sizeOf, bytesOf}
+use Rattle.model.specs.Sound.{Live}
+use Rattle.model.specs.Step.{Machine, Ready, Issue, step}
+use Rattle.model.specs.Tables.{spaceAt}
+use Rattle.isolation.specs.Reaches.{Reaches, ReachesIn}
+
+-- every live space outside the set X holds equal bytes
+abbrev pub EqualOutside : (ℕ → Bool) → State → (scratch₁ scratch₂ : List ℕ) → Type 0
+EqualOutside X s m₁ m₂ = (u : ℕ) → Live (s .spaces) u → X (spaceAt (s .spaces) u .id) ≡ false → bytesOf s u m₁ ≡ bytesOf s u m₂
+
+-- two machines that differ in the bytes of changed spaces alone, and in free frames
+pub record Alike (X : ℕ → Bool) (m₁ m₂ : Machine) : Type 0 where
+  pub tables : m₁ .tables ≡ m₂ .tables
+  pub room : length (m₁ .scratch) ≡ length (m₂ .scratch)
+  pub bytes : EqualOutside X (m₁ .tables) (m₁ .scratch) (m₂ .scratch)
+
+-- one call in both runs, with the spaces that count as changed from it on
+pub record Turn : Type 0 where
+  pub first : Issue
+  pub second : Issue
+  pub changed : ℕ → Bool
+
+-- the second run has the same calls; lengths are kept; buffers differ only where the first run's call reaches a changed space
+pub record MayDiffer (X : ℕ → Bool) (m : Machine) (i j : Issue) : Type 0 where
+  pub call : i .call ≡ j .call
+  pub lengths : length (i .buffer) ≡ length (j .buffer)
+  pub same : (ReachesIn X m i → ⊥) → i .buffer ≡ j .buffer
+
+abbrev pub Grows : (X Y : ℕ → Bool) → Type 0
+Grows X Y = (id : ℕ) → X id ≡ true → Y id ≡ true
+
+unfoldable pub Varied : (ℕ → Bool) → Machine → List Turn → Type 0
+Varied X m [] = Unit {0}
+Varied X m (t ∷ ts) = Grows X (t .changed) × MayDiffer (t .changed) m (t .first) (t .second) × Varied (t .changed) (step m (t .first) .machine) ts
+
+-- "In both runs a call returns the same; equal after it are the tables, the bytes of each live space but that one, and a
+-- fetch's buffer unless that fetch reaches that space."
+pub record SameCall (X : ℕ → Bool) (m₁ m₂ : Machine) (i j : Issue) : Type 0 where
+  pub answer : number (step m₁ i .answer) ≡ number (step m₂ j .answer)
+  pub value : value (step m₁ i .answer) ≡ value (step m₂ j .answer)
+  pub alike : Alike X (step m₁ i .machine) (step m₂ j .machine)
+  pub buffer : (ReachesIn X m₁ i → ⊥) → step m₁ i .buffer ≡ step m₂ j .buffer
+
+-- at every call of the list
+unfoldable pub SameRuns : Machine → Machine → List Turn → Type 0
+SameRuns m₁ m₂ [] = Unit {0}
+SameRuns m₁ m₂ (t ∷ ts) = SameCall (t .changed) m₁ m₂ (t .first) (t .second) × SameRuns (step m₁ (t .first) .machine) (step m₂ (t .second) .machine) ts
+
+-- The general claim.
+abbrev pub TwoRuns : Type 0
+TwoRuns = (X : ℕ → Bool) (ts : List Turn) (m₁ m₂ : Machine) → Ready m₁ → Alike X m₁ m₂ → Varied X m₁ ts → SameRuns m₁ m₂ ts
+
+-- The paper's own claim. "Take any sound state with its scratch, any live space in it, any list of calls, refused ones
+-- included, and run the list twice; the runs may differ in the bytes first held in that space and in the data of stores that
+-- reach it (lengths kept), and in nothing else."
+
+-- a store, by its call
+abbrev pub IsStore : Operation → Type 0
+IsStore (Enrol pages allowance share list asf) = ⊥
+IsStore (Create name pages) = ⊥
+IsStore (Destroy id) = ⊥
+IsStore (Permit id guest right) = ⊥
+IsStore (Isolate id) = ⊥
+IsStore (Query owner name) = ⊥
+IsStore (Add id right) = ⊥
+IsStore (Remove token) = ⊥
+IsStore (Load register value) = ⊥
+IsStore (Mode m) = ⊥
+IsStore (Fetch register address) = ⊥
+IsStore (Store register address) = Unit {0}
+IsStore Reset = ⊥
+
+-- scratch is equal at every byte outside that space, free frames included
+pub record OutsideSpace (s : State) (u : ℕ) (m₁ m₂ : List ℕ) : Type 0 where
+  pub room : length m₁ ≡ length m₂
+  pub bytes : (p : ℕ) → ((a : ℕ) → a < sizeOf (s .spaces) u → placeOf (layout s) u a ≢ p) → getD m₁ p 0 ≡ getD m₂ p 0
+
+-- only the data of stores that reach the space in the first run differ, lengths kept; so every fetch's buffer is first
+-- filled alike
+pub record StoreMayDiffer (id : ℕ) (m : Machine) (i j : Issue) : Type 0 where
+  pub call : i .call ≡ j .call
+  pub lengths : length (i .buffer) ≡ length (j .buffer)
+  pub same : (IsStore (i .call .operation) × Reaches m i id → ⊥) → i .buffer ≡ j .buffer
+
+unfoldable pub StoresVaried : (id : ℕ) → Machine → (first second : List Issue) → Type 0
+StoresVaried x m [] [] = Unit {0}
+StoresVaried x m [] (j ∷ js) = ⊥
+StoresVaried x m (i ∷ is) [] = ⊥
+StoresVaried x m (i ∷ is) (j ∷ js) = StoreMayDiffer x m i j × StoresVaried x (step m i .machine) is js
+
+-- after each call the same answer and value, equal tables, equal bytes in each live space but that one, and an equal buffer
+-- unless the call reaches that space
+pub record SameOutside (id : ℕ) (m₁ m₂ : Machine) (i j : Issue) : Type 0 where
+  pub answer : number (step m₁ i .answer) ≡ number (step m₂ j .answer)
+  pub value : value (step m₁ i .answer) ≡ value (step m₂ j .answer)
+  pub tables : step m₁ i .machine .tables ≡ step m₂ j .machine .tables
+  pub bytes : (u : ℕ) → Live (step m₁ i .machine .tables .spaces) u → spaceAt (step m₁ i .machine .tables .spaces) u .id ≢ id
+      → bytesOf (step m₁ i .machine .tables) u (step m₁ i .machine .scratch) ≡ bytesOf (step m₁ i .machine .tables) u (step m₂ j .machine .scratch)
+  pub buffer : (Reaches m₁ i id → ⊥) → step m₁ i .buffer ≡ step m₂ j .buffer
+
+unfoldable pub AllSameOutside : (id : ℕ) → Machine → Machine → (first second : List Issue) → Type 0
+AllSameOutside x m₁ m₂ [] [] = Unit {0}
+AllSameOutside x m₁ m₂ [] (j ∷ js) = ⊥
+AllSameOutside x m₁ m₂ (i ∷ is) [] = ⊥
+AllSameOutside x m₁ m₂ (i ∷ is) (j ∷ js) = SameOutside x m₁ m₂ i j × AllSameOutside x (step m₁ i .machine) (step m₂ j .machine) is js
+
+abbrev pub Isolation : Type 0
+Isolation =
+    (s : State) (scratch₁ scratch₂ : List ℕ) (u : ℕ) (first second : List Issue)
+    → Ready (record { tables = s; scratch = scratch₁ })
+    → Live (s .spaces) u
+    → OutsideSpace s u scratch₁ scratch₂
+    → StoresVaried (spaceAt (s .spaces) u .id) (record { tables = s; scratch = scratch₁ }) first second
+    → AllSameOutside (spaceAt (s .spaces) u .id) (record { tables = s; scratch = scratch₁ }) (record { tables = s; scratch = scratch₂ }) first second
