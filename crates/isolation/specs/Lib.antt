@@ -4,3 +4,8 @@
 pub mod Reaches
 -- First half: two runs of one list that differ in one space
 pub mod TwoRuns
+-- Second half: the ground that earlier calls give for each fetch or store
+pub mod History
+pub mod Recall
+pub mod Ground
+pub mod Agrees
