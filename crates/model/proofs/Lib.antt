@@ -23,3 +23,4 @@ pub mod Lawful
 pub mod Sound
 pub mod StoreFetch
 pub mod Rules
+pub mod Promise

@@ -182,11 +182,25 @@ module _ (s : State) (c : Caller) where
   lists-3 (Store register address) n = refl
   lists-3 Reset n = tt
 
--- Every call, on every state, with every argument and buffer.
-pub verdict : (s : State) (m : ℕ) (k : Call) (n : ℕ) → Verdict s (row (k .operation)) (Granted s m k n) (decide s m k n)
-unfolding decide judge number row listed either
-verdict s m k n =
-    check-verdict s _ _ (ready s m) Unsound _ refl refl (λ e1.
+-- Checks 2 and 3, and the call.
+record Judged (s : State) (k : Call) (n : ℕ) (d : Decision) : Type 0 where
+  caller : goodCaller s (k .caller) (k .operation) ≡ true
+  arguments : AllFit (arguments (s .guests) (k .caller) (k .operation) n)
+  performed : Performed s (k .caller) (k .operation) n d
+
+judged-all : (s : State) (k : Call) (n : ℕ) → Verdict s (row (k .operation)) (Judged s k n) (judge s k n)
+unfolding judge number row listed either
+judged-all s k n =
     check-verdict s _ _ (goodCaller s (k .caller) (k .operation)) BadCaller _ refl refl (λ e2.
     check-all s _ _ (arguments (s .guests) (k .caller) (k .operation) n) _ (lists-3 s (k .caller) (k .operation) n) (λ e3.
-    verdict-map (λ p. record { ready = e1; caller = e2; arguments = e3; performed = p }) (performed s (k .caller) (k .operation) n))))
+    verdict-map (λ p. record { caller = e2; arguments = e3; performed = p }) (performed s (k .caller) (k .operation) n)))
+
+pub judged : (s : State) (k : Call) (n : ℕ) → Verdict s (row (k .operation)) (Performed s (k .caller) (k .operation) n) (judge s k n)
+judged s k n = verdict-map (λ (g : Judged s k n (judge s k n)). g .performed) (judged-all s k n)
+
+-- Every call, on every state, with every argument and buffer.
+pub verdict : (s : State) (m : ℕ) (k : Call) (n : ℕ) → Verdict s (row (k .operation)) (Granted s m k n) (decide s m k n)
+unfolding decide number row listed either
+verdict s m k n =
+    check-verdict s _ _ (ready s m) Unsound _ refl refl (λ e1.
+    verdict-map (λ (g : Judged s k n (judge s k n)). record { ready = e1; caller = g .caller; arguments = g .arguments; performed = g .performed }) (judged-all s k n))

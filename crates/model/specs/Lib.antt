@@ -31,5 +31,6 @@ pub mod Lawful
 -- what the code returns
 pub mod Replies
 pub mod Leaves
+pub mod Promise
 -- "Both sides of each edge"
 pub mod Cases
