@@ -34,3 +34,6 @@ pub mod Leaves
 pub mod Promise
 -- "Both sides of each edge"
 pub mod Cases
+-- "The session program"
+pub mod Lines
+pub mod Session

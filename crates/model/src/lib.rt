@@ -179,3 +179,11 @@ pub enum Translation {
     Reached { slot: u8, right: Right },
     Refused(Answer),
 }
+
+// What a line of a session asks for: FRAMES, a call, or nothing that can be read. The length is FETCH's as written, or the
+// number of STORE's data bytes, which stand beside; for every other call it is 0.
+pub enum Request {
+    Frames { frames: u32 },
+    Call { call: Call, length: u32 },
+    NotRead,
+}
