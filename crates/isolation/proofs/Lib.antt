@@ -1,3 +1,4 @@
 pub mod Reaching
+pub mod Moved
 pub mod TwoRuns
 pub mod Isolation

@@ -58,11 +58,15 @@ one-register (Fetch register address) r q a b = sym a ∙ b
 one-register (Store register address) r q a b = sym a ∙ b
 one-register Reset r q a b = absurd a
 
+-- one live slot
+pub slot-one : (m : Machine) → Ready m → (i : Issue) (x y : ℕ) → (a : Reaches m i x) (b : Reaches m i y) → a .slot ≡ b .slot
+slot-one m ready i x y a b =
+    let r : a .register ≡ b .register = one-register (i .call .operation) (a .register) (b .register) (a .through) (b .through) in
+    named-one (m .tables) (ready .sound) _ _ (a .slot) (b .slot) (a .live) (b .live) (a .named) (rw (← r) at (b .named))
+
 pub reaches-one : (m : Machine) → Ready m → (i : Issue) (x y : ℕ) → Reaches m i x → Reaches m i y → x ≡ y
 reaches-one m ready i x y a b =
-    let r : a .register ≡ b .register = one-register (i .call .operation) (a .register) (b .register) (a .through) (b .through) in
-    let u : a .slot ≡ b .slot = named-one (m .tables) (ready .sound) _ _ (a .slot) (b .slot) (a .live) (b .live) (a .named) (rw (← r) at (b .named)) in
-    sym (a .space) ∙ ap (λ v. spaceAt (m .tables .spaces) v .id) u ∙ b .space
+    sym (a .space) ∙ ap (λ v. spaceAt (m .tables .spaces) v .id) (slot-one m ready i x y a b) ∙ b .space
 
 -- the effect of a call on a space, by its slot in the tables after the call, comes with reaching it
 abbrev pub Touches : Machine → Issue → (after : State) → Effect → Type 0
@@ -72,7 +76,7 @@ Touches m i t (fetch u a) = Reaches m i (spaceAt (t .spaces) u .id)
 Touches m i t (store u a) = Reaches m i (spaceAt (t .spaces) u .id)
 
 module _ (m : Machine) (ready : Ready m) (i : Issue) (d : Decision) (done : number (step m i .answer) ≡ 0) where
-  accessed : (r a : ℕ) (storing : Bool) (f : ℕ → Effect) → enrolled (m .tables .guests) (i .call .caller .guest) ≡ true → Through (i .call .operation) r
+  pub accessed : (r a : ℕ) (storing : Bool) (f : ℕ → Effect) → enrolled (m .tables .guests) (i .call .caller .guest) ≡ true → Through (i .call .operation) r
       → (x : Accessed (m .tables) (i .call .caller) r a (length (i .buffer)) storing f d) → Reaches m i (spaceAt (m .tables .spaces) (x .slot) .id)
   unfolding target
   accessed r a storing f en t x =
@@ -85,6 +89,11 @@ module _ (m : Machine) (ready : Ready m) (i : Issue) (d : Decision) (done : numb
         space = refl;
         named = named-by (m .tables) (ready .sound) (i .call .caller .guest) _ (x .slot) (x .right) en (reached (m .tables) (i .call .caller .guest) _ (x .slot) (x .right) (x .reached));
       }
+
+  pub accessed-slot : (r a : ℕ) (storing : Bool) (f : ℕ → Effect) (en : enrolled (m .tables .guests) (i .call .caller .guest) ≡ true) (t : Through (i .call .operation) r)
+      (x : Accessed (m .tables) (i .call .caller) r a (length (i .buffer)) storing f d) → accessed r a storing f en t x .slot ≡ x .slot
+  unfolding accessed
+  accessed-slot r a storing f en t x = refl
 
   -- a done call, by its operation
   touched : (k : Operation) → i .call .operation ≡ k → goodCaller (m .tables) (i .call .caller) k ≡ true → Performed (m .tables) (i .call .caller) k (length (i .buffer)) d → Touches m i (d .after) (d .effect)
