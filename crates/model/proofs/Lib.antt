@@ -22,3 +22,8 @@ pub mod Fresh
 pub mod Lawful
 pub mod Sound
 pub mod StoreFetch
+pub mod Types
+pub mod Guards
+pub mod Effects
+pub mod SpaceEffects
+pub mod TransferEffects
