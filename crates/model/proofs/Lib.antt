@@ -24,3 +24,8 @@ pub mod Sound
 pub mod StoreFetch
 pub mod Rules
 pub mod Promise
+pub mod Types
+pub mod Guards
+pub mod Effects
+pub mod SpaceEffects
+pub mod TransferEffects

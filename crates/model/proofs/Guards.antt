@@ -1,0 +1,277 @@
+-- Which answer a call gets: the number of the first of its checks that fails, in the paper's order; and the limits of its
+-- arguments in the paper's numbers. Assumes nothing.
+use Prim.Native.Nat.{ℕ, _+_, _≤_}
+use mathlib.Core.Bool.{Bool, true, false, not}
+use mathlib.Core.List.{List, [], _∷_}
+use mathlib.Core.Logic.{_≢_}
+use mathlib.Core.Path.{_≡_, refl, sym, ap, _∙_}
+use lib.Dec.{leb, ltb, eqb}
+use borrow.Author.Tests.{not-false}
+use Rattle.lists.specs.Choice.{choose, both, either, implies}
+use Rattle.lists.specs.Decides.{Decides}
+use Rattle.lists.proofs.Choice.{true-false, not-to, yes!, no!, choose-elim, both-no, either-left, either-right, either-none}
+use Rattle.lists.proofs.Decides.{d-le, d-eq, d-is, d-not, d-both}
+use Rattle.model.specs.declared.Answer.{Answer}
+use Rattle.model.specs.declared.Answer.the-variants.{Unsound, BadCaller, NameTaken, NoSpace, NotOwner, NoSharing, AllowanceUsed, SlotsUsed, NoRun, NoIdentification, NotPermitted, ListFull, AletSpecification, AlenTranslation, Addressing, Protection, SpecialOperation, PrimarySpace}
+use Rattle.model.specs.declared.Call.{Call}
+use Rattle.model.specs.declared.Caller.{Caller}
+use Rattle.model.specs.declared.Guest.{Guest}
+use Rattle.model.specs.declared.Operation.{Operation}
+use Rattle.model.specs.declared.Operation.the-variants.{Enrol, Create, Destroy, Permit, Isolate, Query, Add, Remove, Load, Mode, Fetch, Store, Reset}
+use Rattle.model.specs.declared.Right.{Right}
+use Rattle.model.specs.declared.Right.the-variants.{Read, Write}
+use Rattle.model.specs.declared.Standing.{Standing}
+use Rattle.model.specs.declared.Standing.the-variants.{Unused, Valid, Revoked}
+use Rattle.model.specs.declared.State.{State}
+use Rattle.model.specs.declared.Translation.{Translation}
+use Rattle.model.specs.declared.Translation.the-variants.{Reached, Refused}
+use Rattle.model.specs.Answers.{number}
+use Rattle.model.specs.Arguments.{Argument, arguments, checkAll, goodPages}
+use Rattle.model.specs.Calls.{making, enrol, create, owning, destroy, permit, isolate, entitled, query, add, remove, load, mode, writes, accessAt, access, target, fetching, storing, reset, perform, goodCaller, judge, ready, decide}
+use Rattle.model.specs.Decision.{Decision, Effect, check}
+use Rattle.model.specs.Frames.{sizeOf}
+use Rattle.model.specs.Names.{baseName}
+use Rattle.model.specs.NameText.{NameText}
+use Rattle.model.specs.Searches.{enrolled, isUnused, slotOf, slotNamed, primarySlot, dataSpaces, freeSlot, freeRun, freeEntry}
+use Rattle.model.specs.Tables.{spaceAt, guestAt, cpuAt, cpuPlace, entryAt}
+use Rattle.model.specs.Tokens.{malformed, assigned, entryNumber, tokenUsed}
+use Rattle.model.specs.Translation.{throughStanding, translate}
+use Rattle.model.proofs.Names.{name-decides}
+use Rattle.model.proofs.Tokens.{assigned-used}
+
+-- A check, with the number that a call answers where it fails. A call's answer is that of the first that fails.
+pub record Check : Type 0 where
+  pub answer : ℕ
+  pub passes : Bool
+
+abbrev pub test : (answer : ℕ) → Bool → Check
+test a b = record { answer = a; passes = b }
+
+unfoldable pub firstFailed : List Check → ℕ
+firstFailed [] = 0
+firstFailed (c ∷ cs) = choose (c .passes) (firstFailed cs) (c .answer)
+
+-- The checks after 1, 2 and 3, in the order of the call's row.
+module _ (s : State) (g : ℕ) where
+  -- ENROL and CREATE: "9, 11, 10"
+  abbrev makingChecks : (pages : ℕ) → List Check
+  makingChecks pages = test 9 (ltb (freeSlot (s .spaces)) 32) ∷ test 11 (ltb (s .next) 65536) ∷ test 10 (ltb (freeRun s pages) (s .frames)) ∷ []
+
+  -- DESTROY, PERMIT and ISOLATE: "5, 6"
+  abbrev owningChecks : (id : ℕ) → List Check → List Check
+  owningChecks i more =
+      test 5 (ltb (slotOf (s .spaces) i) 32) ∷ test 6 (eqb (spaceAt (s .spaces) (slotOf (s .spaces) i) .owner) g) ∷ more
+
+-- FETCH and STORE: "14, 15, 16, 17, 18". What the token names is read where it names something.
+abbrev isRevoked : Standing → Bool
+isRevoked Unused = false
+isRevoked (Valid u r) = false
+isRevoked Revoked = true
+
+abbrev slotIn : Translation → ℕ
+slotIn (Reached u r) = u
+slotIn (Refused a) = 0
+
+abbrev rightIn : Translation → Right
+rightIn (Reached u r) = r
+rightIn (Refused a) = Read
+
+abbrev accessChecks : State → (guest token address buffer : ℕ) → (storing : Bool) → Translation → List Check
+accessChecks s g t a n storing x =
+    test 14 (not (malformed t))
+    ∷ test 15 (either (eqb t 0) (assigned (s .entries) g (guestAt (s .guests) g .list) t))
+    ∷ test 16 (either (eqb t 0) (not (isRevoked (entryAt (s .entries) g (entryNumber t) .standing))))
+    ∷ test 17 (leb (a + n) (sizeOf (s .spaces) (slotIn x)))
+    ∷ test 18 (implies storing (writes (rightIn x)))
+    ∷ []
+
+abbrev transferChecks : State → Caller → (register address buffer : ℕ) → (storing : Bool) → List Check
+transferChecks s c r a n storing = accessChecks s (c .guest) (tokenUsed (cpuAt (s .cpus) (cpuPlace c)) r) a n storing (target s c r)
+
+abbrev pub ownChecks : State → Caller → Operation → (buffer : ℕ) → List Check
+ownChecks s c (Enrol pages allowance share list asf) n = makingChecks s (c .guest) pages
+ownChecks s c (Create name pages) n =
+    test 4 (leb 32 (slotNamed (s .spaces) (c .guest) name))
+    ∷ test 8 (not (eqb (dataSpaces (s .spaces) (c .guest)) (guestAt (s .guests) (c .guest) .allowance)))
+    ∷ makingChecks s (c .guest) pages
+ownChecks s c (Destroy id) n =
+    owningChecks s (c .guest) id (test 20 (not (eqb (spaceAt (s .spaces) (slotOf (s .spaces) id) .name) baseName)) ∷ [])
+ownChecks s c (Permit id guest right) n = owningChecks s (c .guest) id (test 7 (guestAt (s .guests) (c .guest) .share) ∷ [])
+ownChecks s c (Isolate id) n = owningChecks s (c .guest) id []
+ownChecks s c (Query owner name) n =
+    test 5 (both (ltb (slotNamed (s .spaces) owner name) 32) (entitled s (c .guest) (slotNamed (s .spaces) owner name) Read)) ∷ []
+ownChecks s c (Add id right) n =
+    test 5 (ltb (slotOf (s .spaces) id) 32)
+    ∷ test 12 (entitled s (c .guest) (slotOf (s .spaces) id) right)
+    ∷ test 13 (ltb (freeEntry (s .entries) (c .guest) (guestAt (s .guests) (c .guest) .list)) (guestAt (s .guests) (c .guest) .list))
+    ∷ []
+ownChecks s c (Remove token) n =
+    test 14 (not (either (eqb token 0) (malformed token)))
+    ∷ test 15 (assigned (s .entries) (c .guest) (guestAt (s .guests) (c .guest) .list) token)
+    ∷ []
+ownChecks s c (Load register value) n = []
+ownChecks s c (Mode m) n = test 19 (implies (eqb m 1) (guestAt (s .guests) (c .guest) .asf)) ∷ []
+ownChecks s c (Fetch register address) n = transferChecks s c register address n false
+ownChecks s c (Store register address) n = transferChecks s c register address n true
+ownChecks s c Reset n = []
+
+-- "All check 1, then 2 first"; then 3 for each argument, from left to right
+abbrev limits : List Argument → List Check → List Check
+limits [] more = more
+limits (a ∷ rest) more = test 3 (a .fits) ∷ limits rest more
+
+abbrev pub checks : State → (scratch : ℕ) → Call → (buffer : ℕ) → List Check
+checks s m k n =
+    test 1 (ready s m)
+    ∷ test 2 (goodCaller s (k .caller) (k .operation))
+    ∷ limits (arguments (s .guests) (k .caller) (k .operation) n) (ownChecks s (k .caller) (k .operation) n)
+
+none-failed : 0 ≡ firstFailed []
+unfolding firstFailed
+none-failed = refl
+
+-- a check that passes is passed over, one that fails gives its answer
+pass : {x : ℕ} (a : ℕ) (b : Bool) (cs : List Check) → b ≡ true → x ≡ firstFailed cs → x ≡ firstFailed (test a b ∷ cs)
+unfolding firstFailed
+pass a b cs e q = q ∙ sym (yes! _ a e)
+
+stop : (a : ℕ) (b : Bool) (cs : List Check) → b ≡ false → a ≡ firstFailed (test a b ∷ cs)
+unfolding firstFailed
+stop a b cs e = sym (no! (firstFailed cs) a e)
+
+module _ (s : State) where
+  first : (b : Bool) (a : Answer) (d : Decision) (cs : List Check) → number (d .answer) ≡ firstFailed cs → number (check s b a d .answer) ≡ firstFailed (test (number a) b ∷ cs)
+  unfolding check
+  first true a d cs e = pass (number a) true cs refl e
+  first false a d cs e = stop (number a) false cs refl
+
+  first-limits : (args : List Argument) (d : Decision) (cs : List Check) → number (d .answer) ≡ firstFailed cs → number (checkAll s args d .answer) ≡ firstFailed (limits args cs)
+  unfolding checkAll number
+  first-limits [] d cs e = e
+  first-limits (a ∷ more) d cs e = first (a .fits) _ _ (limits more cs) (first-limits more d cs e)
+
+-- FETCH and STORE, by what the token is
+module _ (s : State) (g t a n : ℕ) (storing : Bool) (f : ℕ → Effect) where
+  abbrev Fine : Translation → Type 0
+  Fine x = number (access s a n storing f x .answer) ≡ firstFailed (accessChecks s g t a n storing x)
+
+  first-inside : (u : ℕ) (r : Right) → number (accessAt s a n storing (f u) u r .answer) ≡ firstFailed (test 17 (leb (a + n) (sizeOf (s .spaces) u)) ∷ test 18 (implies storing (writes r)) ∷ [])
+  unfolding accessAt number
+  first-inside u r = first s _ Addressing _ _ (first s _ Protection _ [] none-failed)
+
+  first-access : Fine (translate s g t)
+  unfolding translate throughStanding access number malformed isUnused
+  first-access =
+      choose-elim Fine (eqb t 0) _ _
+      (λ z. pass 14 _ _ (ap not (both-no _ (ap not z))) (pass 15 _ _ (either-left _ _ z) (pass 16 _ _ (either-left _ _ z) (first-inside (primarySlot (s .spaces) g) Write))))
+      (λ z. choose-elim Fine (malformed t) _ _ (λ m. stop 14 _ _ (ap not m))
+      (λ m. choose-elim Fine (not listed) _ _ (λ l. pass 14 _ _ (ap not m) (stop 15 _ _ (either-none _ _ z (not-to listed l))))
+      (λ l. pass 14 _ _ (ap not m) (pass 15 _ _ (either-right _ _ (not-false listed l)) (through z (not-false listed l) standing refl)))))
+    where
+      listed : Bool
+      listed = assigned (s .entries) g (guestAt (s .guests) g .list) t
+
+      standing : Standing
+      standing = entryAt (s .entries) g (entryNumber t) .standing
+
+      through : eqb t 0 ≡ false → listed ≡ true → (x : Standing) → standing ≡ x → number (access s a n storing f (throughStanding x) .answer)
+          ≡ firstFailed (test 16 (either (eqb t 0) (not (isRevoked standing))) ∷ test 17 (leb (a + n) (sizeOf (s .spaces) (slotIn (throughStanding x)))) ∷ test 18 (implies storing (writes (rightIn (throughStanding x)))) ∷ [])
+      through z l Unused e = true-false (ap isUnused e) (assigned-used (s .entries) g (guestAt (s .guests) g .list) t l)
+      through z l (Valid u r) e = pass 16 _ _ (either-right _ _ (ap (λ y. not (isRevoked y)) e)) (first-inside u r)
+      through z l Revoked e = stop 16 _ _ (either-none _ _ z (ap (λ y. not (isRevoked y)) e))
+
+-- Any call after the checks 1 to 3, and any call.
+module _ (s : State) (c : Caller) where
+  first-performed : (k : Operation) (n : ℕ) → number (perform s c k n .answer) ≡ firstFailed (ownChecks s c k n)
+  unfolding perform enrol create making owning destroy permit isolate query add remove load mode fetching storing reset target number
+  first-performed (Enrol pages allowance share list asf) n = first s _ SlotsUsed _ _ (first s _ NoIdentification _ _ (first s _ NoRun _ [] none-failed))
+  first-performed (Create name pages) n =
+      first s _ NameTaken _ _ (first s _ AllowanceUsed _ _ (first s _ SlotsUsed _ _ (first s _ NoIdentification _ _ (first s _ NoRun _ [] none-failed))))
+  first-performed (Destroy id) n = first s _ NoSpace _ _ (first s _ NotOwner _ _ (first s _ PrimarySpace _ [] none-failed))
+  first-performed (Permit id guest right) n = first s _ NoSpace _ _ (first s _ NotOwner _ _ (first s _ NoSharing _ [] none-failed))
+  first-performed (Isolate id) n = first s _ NoSpace _ _ (first s _ NotOwner _ [] none-failed)
+  first-performed (Query owner name) n = first s _ NoSpace _ [] none-failed
+  first-performed (Add id right) n = first s _ NoSpace _ _ (first s _ NotPermitted _ _ (first s _ ListFull _ [] none-failed))
+  first-performed (Remove token) n = first s _ AletSpecification _ _ (first s _ AlenTranslation _ [] none-failed)
+  first-performed (Load register value) n = none-failed
+  first-performed (Mode m) n = first s _ SpecialOperation _ [] none-failed
+  first-performed (Fetch register address) n = first-access s (c .guest) _ address n false _
+  first-performed (Store register address) n = first-access s (c .guest) _ address n true _
+  first-performed Reset n = none-failed
+
+pub answer-first : (s : State) (m : ℕ) (k : Call) (n : ℕ) → number (decide s m k n .answer) ≡ firstFailed (checks s m k n)
+unfolding decide judge number
+answer-first s m k n =
+    first s _ Unsound _ _ (first s _ BadCaller _ _
+    (first-limits s (arguments (s .guests) (k .caller) (k .operation) n) _ _ (first-performed s (k .caller) (k .operation) n)))
+
+-- Answer 3: "an argument outside its limits", argument by argument in the paper's numbers.
+abbrev pub limitsOf : List Guest → Caller → Operation → (buffer : ℕ) → List (Type 0)
+limitsOf gs c (Enrol pages allowance share list asf) n =
+    ((1 ≤ pages) × (pages ≤ 512)) ∷ (allowance ≤ 31) ∷ (share ≤ 1) ∷ ((1 ≤ list) × (list ≤ 30)) ∷ (asf ≤ 1) ∷ []
+limitsOf gs c (Create name pages) n = NameText name ∷ ((1 ≤ pages) × (pages ≤ 512)) ∷ []
+limitsOf gs c (Destroy id) n = []
+limitsOf gs c (Permit id guest right) n = ((enrolled gs guest ≡ true) × (guest ≢ c .guest)) ∷ []
+limitsOf gs c (Isolate id) n = []
+limitsOf gs c (Query owner name) n = ((1 ≤ owner) × (owner ≤ 8)) ∷ NameText name ∷ []
+limitsOf gs c (Add id right) n = []
+limitsOf gs c (Remove token) n = []
+limitsOf gs c (Load register value) n = (register ≤ 15) ∷ []
+limitsOf gs c (Mode m) n = (m ≤ 1) ∷ []
+limitsOf gs c (Fetch register address) n = (register ≤ 15) ∷ ((1 ≤ n) × (n ≤ 256)) ∷ []
+limitsOf gs c (Store register address) n = (register ≤ 15) ∷ ((1 ≤ n) × (n ≤ 256)) ∷ []
+limitsOf gs c Reset n = []
+
+-- each argument fits exactly where it is inside its limits
+data Decided : List Argument → List (Type 0) → Type 1 where
+  none : Decided [] []
+  more : {a : Argument} {args : List Argument} {P : Type 0} {Ps : List (Type 0)} → Decides (a .fits) P → Decided args Ps → Decided (a ∷ args) (P ∷ Ps)
+
+d-pages : (n : ℕ) → Decides (goodPages n) ((1 ≤ n) × (n ≤ 512))
+d-pages n = d-both (d-le 1 n) (d-le n 512)
+
+limits-decided : (gs : List Guest) (c : Caller) (k : Operation) (n : ℕ) → Decided (arguments gs c k n) (limitsOf gs c k n)
+unfolding arguments
+limits-decided gs c (Enrol pages allowance share list asf) n =
+    more (d-pages pages) (more (d-le allowance 31) (more (d-le share 1) (more (d-both (d-le 1 list) (d-le list 30)) (more (d-le asf 1) none))))
+limits-decided gs c (Create name pages) n = more (name-decides name) (more (d-pages pages) none)
+limits-decided gs c (Destroy id) n = none
+limits-decided gs c (Permit id guest right) n = more (d-both (d-is (enrolled gs guest)) (d-not (d-eq guest (c .guest)))) none
+limits-decided gs c (Isolate id) n = none
+limits-decided gs c (Query owner name) n = more (d-both (d-le 1 owner) (d-le owner 8)) (more (name-decides name) none)
+limits-decided gs c (Add id right) n = none
+limits-decided gs c (Remove token) n = none
+limits-decided gs c (Load register value) n = more (d-le register 15) none
+limits-decided gs c (Mode m) n = more (d-le m 1) none
+limits-decided gs c (Fetch register address) n = more (d-le register 15) (more (d-both (d-le 1 n) (d-le n 256)) none)
+limits-decided gs c (Store register address) n = more (d-le register 15) (more (d-both (d-le 1 n) (d-le n 256)) none)
+limits-decided gs c Reset n = none
+
+-- outside them the answer is 3, and inside them the call's own checks decide
+abbrev pub All : List (Type 0) → Type 0
+All [] = Unit {0}
+All (P ∷ Ps) = P × All Ps
+
+limits-go : {args : List Argument} {Ps : List (Type 0)} → Decided args Ps → (cs : List Check) → All Ps → firstFailed cs ≡ firstFailed (limits args cs)
+limits-go none cs h = refl
+limits-go (more d ds) cs h = pass 3 _ _ (d .of (h .0)) (limits-go ds cs (h .1))
+
+limits-stop : {args : List Argument} {Ps : List (Type 0)} → Decided args Ps → (cs : List Check) → (All Ps → ⊥) → 3 ≡ firstFailed (limits args cs)
+limits-stop none cs out = absurd (out tt)
+limits-stop (more {a} {args} {P} d ds) cs out = go (a .fits) refl (λ h. limits-stop ds cs (λ rest. out (h, rest)))
+  where
+    go : (b : Bool) → a .fits ≡ b → (P → 3 ≡ firstFailed (limits args cs)) → 3 ≡ firstFailed (limits (a ∷ args) cs)
+    go true e f = pass 3 _ _ e (f (d .to e))
+    go false e f = stop 3 _ _ e
+
+module _ (s : State) (m : ℕ) (k : Call) (n : ℕ) (e1 : ready s m ≡ true) (e2 : goodCaller s (k .caller) (k .operation) ≡ true) where
+  abbrev Limits : Type 0
+  Limits = All (limitsOf (s .guests) (k .caller) (k .operation) n)
+
+  pub outside-limits : (Limits → ⊥) → number (decide s m k n .answer) ≡ 3
+  outside-limits out =
+      answer-first s m k n ∙ sym (pass 1 _ _ e1 (pass 2 _ _ e2 (limits-stop (limits-decided (s .guests) (k .caller) (k .operation) n) _ out)))
+
+  pub inside-limits : Limits → number (decide s m k n .answer) ≡ firstFailed (ownChecks s (k .caller) (k .operation) n)
+  inside-limits fit =
+      answer-first s m k n ∙ sym (pass 1 _ _ e1 (pass 2 _ _ e2 (limits-go (limits-decided (s .guests) (k .caller) (k .operation) n) _ fit)))

@@ -1,0 +1,311 @@
+-- What a done ENROL, CREATE, DESTROY, ISOLATE and RESET do, in the words of their rows in paper 01, and that they do nothing
+-- else. Assumes nothing.
+use Prim.Native.Nat.{ℕ, _+_, _*_, _<_}
+use mathlib.Core.Bool.{Bool, true, false}
+use mathlib.Core.List.{List}
+use mathlib.Core.Logic.{_≢_, inl, inr, ⊎-elim}
+use mathlib.Core.Path.{_≡_, refl, sym, ap, _∙_}
+use native.Mathlib.Omega.{arith}
+use lib.Dec.{leb, eqb}
+use lib.ListN.{set, replicate}
+use lib.Seq.{getD-set-same, getD-set-other}
+use borrow.Author.Tests.{eq-eqb, leb-true}
+use Rattle.lists.specs.Choice.{choose}
+use Rattle.lists.specs.Decides.{Decides}
+use Rattle.lists.specs.Lowest.{Lowest}
+use Rattle.lists.proofs.Choice.{true-false, not-so, yes!, no!, choose-elim, both-left, both-right}
+use Rattle.lists.proofs.Decides.{d-eq, d-both, d-either, d-not, d-map}
+use Rattle.model.specs.declared.Caller.{Caller}
+use Rattle.model.specs.declared.Entry.{Entry}
+use Rattle.model.specs.declared.Grant.the-variants.{Nothing}
+use Rattle.model.specs.declared.Guest.{Guest}
+use Rattle.model.specs.declared.Operation.the-variants.{Enrol, Create, Destroy, Isolate, Reset}
+use Rattle.model.specs.declared.Permit.{Permit}
+use Rattle.model.specs.declared.Right.{Right}
+use Rattle.model.specs.declared.Space.{Space}
+use Rattle.model.specs.declared.Standing.{Standing}
+use Rattle.model.specs.declared.Standing.the-variants.{Unused, Valid, Revoked}
+use Rattle.model.specs.declared.State.{State}
+use Rattle.model.specs.Answers.{value}
+use Rattle.model.specs.Calls.{made, withEnrolled, resetTables, enrols, mayEnrol, goodCaller}
+use Rattle.model.specs.Changes.{released, releasedFrom, revokedFrom, revoked, loses, withdrawn}
+use Rattle.model.specs.Decision.{Decision, none, accept}
+use Rattle.model.specs.Frames.{layout, frameOf, bytesOf}
+use Rattle.model.specs.Granted.{Made, Performed}
+use Rattle.model.specs.Names.{baseName}
+use Rattle.model.specs.Runs.{IsRun}
+use Rattle.model.specs.Searches.{isOwned, isData, slotOf, dataSpaces, freeSlot, freeRun}
+use Rattle.model.specs.Sound.{Live, IsGuest, IsEntry, Sound}
+use Rattle.model.specs.Step.{scratchAfter}
+use Rattle.model.specs.Tables.{noSpace, noGuest, spaceAt, guestAt, guestPlace, grantAt, entryAt, withNext, withSpaces, withGuests, withPermits, withEntries}
+use Rattle.model.proofs.Effects.{IsSpace, is-space, by, Done, all, ok, guest}
+use Rattle.model.proofs.Entries.{same-guest, released-unused}
+use Rattle.model.proofs.Reset.{released-own, released-other}
+use Rattle.model.proofs.Runs.{lowest-run, lowest-slot}
+use Rattle.model.proofs.Searches.{d-live, named-none}
+use Rattle.model.proofs.Sound.{sound-kept}
+use Rattle.model.proofs.SpaceBytes.{clear-own}
+use Rattle.model.proofs.Withdraw.{withdrawn-gone, withdrawn-kept, withdrawn-live, withdrawn-frame, withdrawn-grant, withdrawn-revoked}
+
+-- ENROL and CREATE "take the lowest unused space slot and the lowest run of free frames, and fill it with zeros". "Value:
+-- identification", the next, "never given twice".
+pub record MakeEffect (s : State) (g k n : ℕ) (d : Decision) : Type 0 where
+  pub slot : ℕ
+  pub slot-below : slot < 32
+  pub slot-lowest : Lowest (λ u. spaceAt (s .spaces) u .id ≡ 0) 32 slot
+  pub start : ℕ
+  pub start-below : start < s .frames
+  pub run-lowest : Lowest (IsRun s n) (s .frames) start
+  pub space : spaceAt (d .after .spaces) slot ≡ record { id = s .next; owner = g; name = k; first = start; pages = n }
+  pub others : (u : ℕ) → u ≢ slot → spaceAt (d .after .spaces) u ≡ spaceAt (s .spaces) u
+  pub next : d .after .next ≡ s .next + 1
+  pub value : value (d .answer) ≡ s .next
+  pub zeros : (m b : List ℕ) → bytesOf (d .after) slot (scratchAfter (d .after) (d .effect) m b) ≡ replicate (n * 4096) 0
+
+pub record EnrolEffect (s : State) (g pages allowance share list asf : ℕ) (d : Decision) : Type 0 where
+  pub made : MakeEffect s g baseName pages d
+  pub guest : guestAt (d .after .guests) g ≡ record { enrolled = true; allowance = allowance; share = eqb share 1; list = list; asf = eqb asf 1 }
+  pub others : (h : ℕ) → IsGuest h → h ≢ g → guestAt (d .after .guests) h ≡ guestAt (s .guests) h
+  pub rest : d .after ≡ withNext (withSpaces (withGuests s (d .after .guests)) (d .after .spaces)) (d .after .next)
+
+pub record CreateEffect (s : State) (g name pages : ℕ) (d : Decision) : Type 0 where
+  pub made : MakeEffect s g name pages d
+  pub new : (u : ℕ) → u < 32 → Live (s .spaces) u → spaceAt (s .spaces) u .owner ≡ g → spaceAt (s .spaces) u .name ≢ name
+  pub room : dataSpaces (s .spaces) g < guestAt (s .guests) g .allowance
+  pub rest : d .after ≡ withNext (withSpaces s (d .after .spaces)) (d .after .next)
+
+-- the slots of which G holds are empty, and every other stands as it stood
+pub record SpacesGo (before after : List Space) (G : ℕ → Type 0) : Type 0 where
+  pub gone : (u : ℕ) → G u → spaceAt after u ≡ noSpace
+  pub kept : (u : ℕ) → (G u → ⊥) → spaceAt after u ≡ spaceAt before u
+
+-- no permit is left for the slots of which C holds, and those for every other stand as they stood
+pub record PermitsGo (before after : List Permit) (C : ℕ → Type 0) : Type 0 where
+  pub gone : (u h : ℕ) → IsGuest h → C u → grantAt after u h ≡ Nothing
+  pub kept : (u h : ℕ) → IsGuest h → (C u → ⊥) → grantAt after u h ≡ grantAt before u h
+
+-- x becomes y: it is revoked where it was valid for a slot of which L holds, and else stays
+pub record Withdrawn (L : ℕ → Type 0) (x y : Entry) : Type 0 where
+  pub lost : (u : ℕ) (r : Right) → x .standing ≡ Valid u r → L u → y ≡ record { standing = Revoked; sequence = x .sequence }
+  pub kept : ((u : ℕ) (r : Right) → x .standing ≡ Valid u r → L u → ⊥) → y ≡ x
+
+-- guests, registers, modes, the next identification and all bytes stay
+pub record RestStays (s : State) (d : Decision) : Type 0 where
+  pub tables : d .after ≡ withEntries (withPermits (withSpaces s (d .after .spaces)) (d .after .permits)) (d .after .entries)
+  pub bytes : d .effect ≡ none
+
+-- DESTROY: "Every valid entry for it, in every list, becomes revoked. Permits vanish; frames are free for use again."
+pub record DestroyEffect (s : State) (g i : ℕ) (d : Decision) : Type 0 where
+  pub slot : ℕ
+  pub space : IsSpace s i slot
+  pub owner : spaceAt (s .spaces) slot .owner ≡ g
+  pub not-primary : spaceAt (s .spaces) slot .name ≢ baseName
+  pub spaces : SpacesGo (s .spaces) (d .after .spaces) (λ u. u ≡ slot)
+  pub frames : (u p q : ℕ) → Live (d .after .spaces) u → p < spaceAt (d .after .spaces) u .pages → q < spaceAt (s .spaces) slot .pages → frameOf (layout (d .after)) u p ≢ frameOf (layout s) slot q
+  pub permits : PermitsGo (s .permits) (d .after .permits) (λ u. u ≡ slot)
+  pub entries : (h n : ℕ) → IsGuest h → IsEntry n → Withdrawn (λ u. u ≡ slot) (entryAt (s .entries) h n) (entryAt (d .after .entries) h n)
+  pub rest : RestStays s d
+
+-- ISOLATE: "All permits for it go; other guests' valid entries for it become revoked, the owner's stay."
+pub record IsolateEffect (s : State) (g i : ℕ) (d : Decision) : Type 0 where
+  pub slot : ℕ
+  pub space : IsSpace s i slot
+  pub owner : spaceAt (s .spaces) slot .owner ≡ g
+  pub spaces : SpacesGo (s .spaces) (d .after .spaces) (λ u. ⊥)
+  pub permits : PermitsGo (s .permits) (d .after .permits) (λ u. u ≡ slot)
+  pub entries : (h n : ℕ) → IsGuest h → IsEntry n → Withdrawn (λ u. (u ≡ slot) × (h ≢ g)) (entryAt (s .entries) h n) (entryAt (d .after .entries) h n)
+  pub rest : RestStays s d
+
+-- RESET: "all the caller's entries become unused, its data spaces are destroyed, its primary is isolated. Primary bytes,
+-- registers and mode stay"
+pub record Owned (s : State) (g u : ℕ) : Type 0 where
+  pub live : Live (s .spaces) u
+  pub owner : spaceAt (s .spaces) u .owner ≡ g
+
+pub record ResetEffect (s : State) (g : ℕ) (d : Decision) : Type 0 where
+  pub unused : (n : ℕ) → IsEntry n → entryAt (d .after .entries) g n .standing ≡ Unused
+  pub released : (n : ℕ) → IsEntry n → entryAt (d .after .entries) g n ≡ released (entryAt (s .entries) g n)
+  pub spaces : SpacesGo (s .spaces) (d .after .spaces) (λ u. Owned s g u × (spaceAt (s .spaces) u .name ≢ baseName))
+  pub permits : PermitsGo (s .permits) (d .after .permits) (Owned s g)
+  pub entries : (h n : ℕ) → h ≢ g → IsGuest h → IsEntry n → Withdrawn (Owned s g) (entryAt (s .entries) h n) (entryAt (d .after .entries) h n)
+  pub rest : RestStays s d
+
+-- One law of making serves both.
+make-does : (s : State) (hs : List Guest) (g name pages : ℕ) (d : Decision) → Sound s → Sound (d .after) → Made s (withGuests s hs) g name pages d → MakeEffect s g name pages d
+unfolding made value scratchAfter
+make-does s hs g name pages d ok after m =
+    let u = freeSlot (s .spaces) in
+    let x : Space = record { id = s .next; owner = g; name = name; first = freeRun s pages; pages = pages } in
+    let is : spaceAt (set (s .spaces) u x) u ≡ x = getD-set-same (s .spaces) u x noSpace (omega (arith, ok .spaces .len, m .slot)) in
+    rw (m .is) (record {
+      slot = u;
+      slot-below = m .slot;
+      slot-lowest = lowest-slot (s .spaces);
+      start = freeRun s pages;
+      start-below = m .run;
+      run-lowest = lowest-run s pages;
+      space = is;
+      others = λ v ne. getD-set-other (s .spaces) u v x noSpace ne;
+      next = refl;
+      value = refl;
+      zeros = λ c b. clear-own _ (rw (m .is) at after) u c (rw is (ok .head .next-low)) ∙ ap (λ (y : Space). replicate (y .pages * 4096) 0) is;
+    })
+
+-- One law of withdrawing serves all three.
+module _ (s : State) (gone closed : ℕ → Bool) where
+  spaces-go : (G : ℕ → Type 0) → ((u : ℕ) → Decides (gone u) (G u)) → SpacesGo (s .spaces) (withdrawn gone closed s .spaces) G
+  spaces-go G d = record {
+    gone = λ u y. withdrawn-gone s gone closed u (d u .of y);
+    kept = λ u n. withdrawn-kept s gone closed u (not-so (gone u) (λ e. n (d u .to e)));
+  }
+
+  permits-go : (C : ℕ → Type 0) → ((u : ℕ) → Decides (closed u) (C u)) → PermitsGo (s .permits) (withdrawn gone closed s .permits) C
+  permits-go C d = record {
+    gone = λ u h i y. withdrawn-grant s gone closed u h i ∙ yes! _ _ (d u .of y);
+    kept = λ u h i n. withdrawn-grant s gone closed u h i ∙ no! _ _ (not-so (closed u) (λ e. n (d u .to e)));
+  }
+
+  entry-withdrawn : (L : ℕ → Type 0) (h n : ℕ) → ((u : ℕ) → Decides (loses (s .spaces) gone closed h u) (L u)) → IsGuest h → IsEntry n
+      → Withdrawn L (entryAt (s .entries) h n) (entryAt (withdrawn gone closed s .entries) h n)
+  unfolding revoked revokedFrom
+  entry-withdrawn L h n d i j =
+      let x = entryAt (s .entries) h n in
+      let is = withdrawn-revoked s gone closed h n i j in
+      record {
+        lost = λ u r v l. is ∙ ap (λ y. record { standing = y; sequence = x .sequence }) (ap (revokedFrom _) v ∙ yes! Revoked (Valid u r) (d u .of l));
+        kept = λ f. is ∙ ap (λ y. record { standing = y; sequence = x .sequence }) (same (x .standing) (λ u r v. not-so _ (λ e. f u r v (d u .to e))));
+      }
+    where
+      same : (x : Standing) → ((u : ℕ) (r : Right) → x ≡ Valid u r → loses (s .spaces) gone closed h u ≡ false) → revokedFrom (loses (s .spaces) gone closed h) x ≡ x
+      same Unused f = refl
+      same (Valid u r) f = no! Revoked (Valid u r) (f u r refl)
+      same Revoked f = refl
+
+  -- no live space has a frame of one that is gone
+  frames-go : Sound s → (v u p q : ℕ) → gone v ≡ true → Live (s .spaces) v → Live (withdrawn gone closed s .spaces) u → p < spaceAt (withdrawn gone closed s .spaces) u .pages
+      → q < spaceAt (s .spaces) v .pages → frameOf (layout (withdrawn gone closed s)) u p ≢ frameOf (layout s) v q
+  frames-go ok v u p q y l k a b e =
+      let w = withdrawn-live s gone closed u k in
+      let same = ok .spaces .apart u v p q (w .1) l (rw (w .2) at a) b (sym (withdrawn-frame s gone closed u p (w .0)) ∙ e) .0 in
+      true-false y (ap gone (sym same) ∙ w .0)
+
+  rest-stays : RestStays s (accept (withdrawn gone closed s) 0 none)
+  unfolding withdrawn
+  rest-stays = record { tables = refl; bytes = refl }
+
+-- an entry that was revoked is released like one that was valid
+released-revoked : (t : ℕ → Bool) (e : Entry) → released (revoked t e) ≡ released e
+unfolding released releasedFrom revoked revokedFrom
+released-revoked t e = go (e .standing)
+  where
+    go : (x : Standing) → releasedFrom (revokedFrom t x) (e .sequence) ≡ releasedFrom x (e .sequence)
+    go Unused = refl
+    go (Valid u r) = choose-elim (λ y. releasedFrom y (e .sequence) ≡ releasedFrom (Valid u r) (e .sequence)) (t u) Revoked (Valid u r) (λ _. refl) (λ _. refl)
+    go Revoked = refl
+
+d-same : (u v : ℕ) → Decides (eqb u v) (v ≡ u)
+d-same u v = d-map sym sym (d-eq u v)
+
+d-never : Decides false ⊥
+d-never = record { to = λ e. true-false e refl; of = λ z. absurd z }
+
+d-owned : (s : State) (g u : ℕ) → Decides (isOwned g (spaceAt (s .spaces) u)) (Owned s g u)
+d-owned s g u =
+    d-map (λ h. record { live = h .0; owner = h .1 }) (λ o. (o .live, o .owner)) (d-both (d-live (spaceAt (s .spaces) u)) (d-eq (spaceAt (s .spaces) u .owner) g))
+
+module _ (s : State) (m : ℕ) (c : Caller) (n : ℕ) where
+  abbrev g : ℕ
+  g = c .guest
+
+  may-enrol : (pages allowance share list asf : ℕ) → Done s m c n (Enrol pages allowance share list asf) → IsGuest g
+  unfolding goodCaller enrols choose mayEnrol
+  may-enrol pages allowance share list asf done =
+      let e = both-left _ _ (all s m c n (Enrol pages allowance share list asf) done .caller) in
+      record { low = leb-true 1 g (both-left _ _ e); high = leb-true g 8 (both-right (leb 1 g) _ e) }
+
+  pub enrol-does : (pages allowance share list asf : ℕ) → Done s m c n (Enrol pages allowance share list asf) → EnrolEffect s g pages allowance share list asf (by s m c n (Enrol pages allowance share list asf))
+  unfolding Performed withEnrolled made
+  enrol-does pages allowance share list asf done =
+      let k = Enrol pages allowance share list asf in
+      let p = all s m c n k done .performed in
+      let fine = ok s m c n k done in
+      let i = may-enrol pages allowance share list asf done in
+      let y : Guest = record { enrolled = true; allowance = allowance; share = eqb share 1; list = list; asf = eqb asf 1 } in
+      let is : by s m c n k .after .guests ≡ set (s .guests) (guestPlace g) y = ap (λ (d : Decision). d .after .guests) (p .is) in
+      record {
+        made = make-does s _ g baseName pages (by s m c n k) fine (sound-kept s m _ n fine) p;
+        guest = ap (λ gs. guestAt gs g) is ∙ getD-set-same (s .guests) (guestPlace g) y noGuest (omega (arith, fine .guests .len));
+        others = λ h j ne. ap (λ gs. guestAt gs h) is ∙ getD-set-other (s .guests) (guestPlace g) (guestPlace h) y noGuest (λ e. ne (same-guest g h i j e));
+        rest = rw (p .is) refl;
+      }
+
+  pub create-does : (name pages : ℕ) → Done s m c n (Create name pages) → CreateEffect s g name pages (by s m c n (Create name pages))
+  unfolding Performed goodCaller enrols choose made
+  create-does name pages done =
+      let k = Create name pages in
+      let p = all s m c n k done .performed in
+      let fine = ok s m c n k done in
+      record {
+        made = make-does s (s .guests) g name pages (by s m c n k) fine (sound-kept s m _ n fine) (p .made);
+        new = λ u b l o e. named-none (s .spaces) g name u (p .new) b l o e;
+        room = omega (arith, p .room, fine .guests .allowed g (all s m c n k done .caller));
+        rest = rw (p .made .is) refl;
+      }
+
+  pub destroy-does : (i : ℕ) → Done s m c n (Destroy i) → DestroyEffect s g i (by s m c n (Destroy i))
+  unfolding Performed loses
+  destroy-does i done =
+      let p = all s m c n (Destroy i) done .performed in
+      let u = slotOf (s .spaces) i in
+      let space = is-space s i (p .owning .slot) in
+      rw (p .is) (record {
+        slot = u;
+        space = space;
+        owner = p .owning .owner;
+        not-primary = p .not-primary;
+        spaces = spaces-go s (eqb u) (eqb u) (λ v. v ≡ u) (d-same u);
+        frames = λ v a b. frames-go s (eqb u) (eqb u) (ok s m c n (Destroy i) done) u v a b (eq-eqb u u refl) (space .live);
+        permits = permits-go s (eqb u) (eqb u) (λ v. v ≡ u) (d-same u);
+        entries = λ h k. entry-withdrawn s (eqb u) (eqb u) (λ v. v ≡ u) h k (λ v.
+            d-map (⊎-elim (λ e. e) (λ e. e .0)) (λ e. inl e) (d-either (d-same u v) (d-both (d-same u v) (d-not (d-eq (spaceAt (s .spaces) v .owner) h)))));
+        rest = rest-stays s (eqb u) (eqb u);
+      })
+
+  pub isolate-does : (i : ℕ) → Done s m c n (Isolate i) → IsolateEffect s g i (by s m c n (Isolate i))
+  unfolding Performed loses
+  isolate-does i done =
+      let p = all s m c n (Isolate i) done .performed in
+      let u = slotOf (s .spaces) i in
+      let keep : ℕ → Bool = λ v. false in
+      let owner : (v : ℕ) → v ≡ u → spaceAt (s .spaces) v .owner ≡ g = λ v e. ap (λ w. spaceAt (s .spaces) w .owner) e ∙ p .owning .owner in
+      rw (p .is) (record {
+        slot = u;
+        space = is-space s i (p .owning .slot);
+        owner = p .owning .owner;
+        spaces = spaces-go s keep (eqb u) (λ v. ⊥) (λ v. d-never);
+        permits = permits-go s keep (eqb u) (λ v. v ≡ u) (d-same u);
+        entries = λ h k. entry-withdrawn s keep (eqb u) (λ v. (v ≡ u) × (h ≢ g)) h k (λ v.
+            d-map (⊎-elim (λ z. absurd z) (λ e. (e .0, λ q. e .1 (owner v (e .0) ∙ sym q)))) (λ e. inr (e .0, λ q. e .1 (sym q ∙ owner v (e .0))))
+            (d-either d-never (d-both (d-same u v) (d-not (d-eq (spaceAt (s .spaces) v .owner) h)))));
+        rest = rest-stays s keep (eqb u);
+      })
+
+  pub reset-does : Done s m c n Reset → ResetEffect s g (by s m c n Reset)
+  unfolding Performed loses resetTables enrols withdrawn
+  reset-does done =
+      let p = all s m c n Reset done .performed in
+      let i = guest s m c n Reset refl done in
+      let gone : ℕ → Bool = λ u. isData g (spaceAt (s .spaces) u) in
+      let closed : ℕ → Bool = λ u. isOwned g (spaceAt (s .spaces) u) in
+      let es = withdrawn gone closed s .entries in
+      let d-data : (u : ℕ) → Decides (gone u) (Owned s g u × (spaceAt (s .spaces) u .name ≢ baseName)) = λ u. d-both (d-owned s g u) (d-not (d-eq _ baseName)) in
+      rw (p .is) (record {
+        unused = λ k j. ap (λ (x : Entry). x .standing) (released-own es g k i j) ∙ released-unused (entryAt es g k);
+        released = λ k j. released-own es g k i j ∙ ap released (withdrawn-revoked s gone closed g k i j) ∙ released-revoked _ (entryAt (s .entries) g k);
+        spaces = spaces-go s gone closed _ d-data;
+        permits = permits-go s gone closed _ (d-owned s g);
+        entries = λ h k ne a j. rw (released-other es g h k ne a j) (entry-withdrawn s gone closed (Owned s g) h k (λ u.
+            d-map (⊎-elim (λ e. e .0) (λ e. e .0)) (λ o. inr (o, λ q. ne (sym q ∙ o .owner)))
+            (d-either (d-data u) (d-both (d-owned s g u) (d-not (d-eq (spaceAt (s .spaces) u .owner) h))))) a j);
+        rest = record { tables = refl; bytes = refl };
+      })
