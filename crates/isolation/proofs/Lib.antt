@@ -2,3 +2,12 @@ pub mod Reaching
 pub mod Moved
 pub mod TwoRuns
 pub mod Isolation
+pub mod Record
+pub mod RecordSet
+pub mod RecordMade
+pub mod RecordWithdrawn
+pub mod RecordKept
+pub mod Recall
+pub mod RecordTells
+pub mod Rising
+pub mod Grounded
