@@ -1,36 +1,34 @@
 -- After every list of calls from a fresh state the memory says what the tables say, and every recorded call was rightful.
 -- Assumes nothing.
 use Prim.Native.Nat.{ℕ, zero, suc, _≤_, _<_}
-use mathlib.Core.Bool.{true, false, not}
+use mathlib.Core.Bool.{true, false}
 use mathlib.Core.List.{List, [], _∷_}
-use mathlib.Core.Logic.{_≢_, _⊎_, inl, inr, ⊎-elim}
+use mathlib.Core.Logic.{_≢_, inl, inr, ⊎-elim}
 use mathlib.Core.Path.{_≡_, refl, sym, ap, _∙_}
 use native.Mathlib.Omega.{arith}
-use lib.Dec.{leb, eqb}
+use lib.Dec.{leb}
 use lib.ListN.{length, getD, getD-replicate}
 use borrow.Author.Tests.{eqb-true, eqb-false, leb-true}
 use Rattle.lists.specs.Choice.{choose, both}
-use Rattle.lists.proofs.Choice.{true-false, both-left, both-right, not-to, either-to}
+use Rattle.lists.proofs.Choice.{both-left, both-right, not-to, either-to}
 use Rattle.model.specs.declared.Call.{Call}
 use Rattle.model.specs.declared.Caller.{Caller}
 use Rattle.model.specs.declared.Cpu.{Cpu}
 use Rattle.model.specs.declared.Entry.{Entry}
 use Rattle.model.specs.declared.Operation.{Operation}
 use Rattle.model.specs.declared.Operation.the-variants.{Enrol, Create, Destroy, Permit, Isolate, Query, Add, Remove, Load, Mode, Fetch, Store, Reset}
-use Rattle.model.specs.declared.Right.{Right}
 use Rattle.model.specs.declared.Space.{Space}
 use Rattle.model.specs.declared.State.{State}
 use Rattle.model.specs.Answers.{number, value}
 use Rattle.model.specs.Arguments.{arguments}
 use Rattle.model.specs.Calls.{entitled, enrols, mayEnrol, goodCaller}
-use Rattle.model.specs.Changes.{allows}
 use Rattle.model.specs.Decision.{Decision}
 use Rattle.model.specs.Fresh.{emptyTables}
 use Rattle.model.specs.Granted.{Performed, AllFit, Granted}
 use Rattle.model.specs.Searches.{slotOf}
 use Rattle.model.specs.Sound.{Live, IsGuest, Sound}
 use Rattle.model.specs.Step.{Machine, Ready, Issue, decision, step, afterRun}
-use Rattle.model.specs.Tables.{noSpace, noCpu, zeroCpu, unusedEntry, spaceAt, guestAt, guestPlace, entryPlace}
+use Rattle.model.specs.Tables.{noSpace, noCpu, zeroCpu, unusedEntry, spaceAt, guestAt, guestPlace, grantAt, entryPlace}
 use Rattle.model.specs.Tokens.{entryNumber}
 use Rattle.model.specs.Verdict.{row, Verdict, refused, granted}
 use Rattle.model.proofs.Refusals.{performed-number}
@@ -78,6 +76,9 @@ module _ (s : State) (m : Memory) (ok : Sound s) (rem : Remembers s m) (c : Call
       let q : m .owner i ≡ spaceAt (s .spaces) (slotOf (s .spaces) i) .owner = rw (f .1) at (rem .owners (slotOf (s .spaces) i) (f .0)) in
       ((λ z. omega (arith, q, enrolled-guest (s .guests) _ (ok .spaces .owner (slotOf (s .spaces) i) (f .0)) .low)), q)
 
+  grant-found : (i : ℕ) → slotOf (s .spaces) i < 32 → IsGuest (c .guest) → m .grant i (c .guest) ≡ grantAt (s .permits) (slotOf (s .spaces) i) (c .guest)
+  grant-found i b guest = let f = slot-found (s .spaces) i b in rw (f .1) at (rem .grants (slotOf (s .spaces) i) (c .guest) (f .0) guest)
+
   performed-rightful : (k : Operation) (n : ℕ) (d : Decision) → goodCaller s c k ≡ true → Performed s c k n d → Rightful m (deedDone c k (value (d .answer)))
   unfolding goodCaller enrols choose Performed deedDone value entitled
   performed-rightful (Enrol pages allowance share list asf) n d e p = rw (p .is) (record { guest = λ z. omega (arith, may-enrol s (c .guest) e .0); above = rem .unowned })
@@ -88,9 +89,7 @@ module _ (s : State) (m : Memory) (ok : Sound s) (rem : Remembers s m) (c : Call
   performed-rightful (Query owner name) n d e p = tt
   performed-rightful (Add id right) n d e p =
       let f = owner-found id (p .slot) in
-      let u = slot-found (s .spaces) id (p .slot) in
-      (f .0, ⊎-elim (λ o. inl (f .1 ∙ eqb-true _ (c .guest) o))
-      (λ a. inr (rw (← u .1) (rw (rem .grants (slotOf (s .spaces) id) (c .guest) (u .0) (enrolled-guest (s .guests) (c .guest) e)) a))) (either-to _ _ (p .right)))
+      (f .0, ⊎-elim (λ o. inl (f .1 ∙ eqb-true _ (c .guest) o)) (λ a. inr (rw (grant-found id (p .slot) (enrolled-guest (s .guests) (c .guest) e)) a)) (either-to _ _ (p .right)))
   performed-rightful (Remove token) n d e p = tt
   performed-rightful (Load register value) n d e p = tt
   performed-rightful (Mode k) n d e p = tt
