@@ -7,7 +7,7 @@ use mathlib.Core.Logic.{_≢_, _⊎_, inl, inr}
 use mathlib.Core.Path.{_≡_, refl, sym, ap, _∙_}
 use native.Mathlib.Decide.{ℕ-discrete}
 use native.Mathlib.Omega.{arith}
-use lib.Dec.{eqb}
+use lib.Dec.{leb}
 use lib.ListN.{length}
 use borrow.Author.Tests.{eq-eqb, ne-eqb, leb-true}
 use Rattle.lists.specs.Choice.{choose}
@@ -19,8 +19,9 @@ use Rattle.model.specs.declared.Right.the-variants.{Read, Write}
 use Rattle.model.specs.declared.Translation.the-variants.{Reached}
 use Rattle.model.specs.Arguments.{arguments}
 use Rattle.model.specs.Calls.{enrols, goodCaller, target, writes}
+use Rattle.model.specs.Decision.{Effect, fetch, store}
 use Rattle.model.specs.Fresh.{emptyTables}
-use Rattle.model.specs.Granted.{Performed, AllFit}
+use Rattle.model.specs.Granted.{Accessed, Performed, AllFit}
 use Rattle.model.specs.Searches.{enrolled}
 use Rattle.model.specs.Step.{Machine, Ready, Issue, decision, step, afterRun}
 use Rattle.model.specs.Tables.{spaceAt}
@@ -30,7 +31,7 @@ use Rattle.isolation.specs.Agrees.{given}
 use Rattle.isolation.specs.Ground.{Did, ByEntry, Ground, Grounded}
 use Rattle.isolation.specs.History.{Event, Deed, recorded}
 use Rattle.isolation.specs.Reaches.{Through, Reaches}
-use Rattle.isolation.specs.Recall.{Given, space, misformed, homeIn, ownerIn, tokenIn, recall, usedIn}
+use Rattle.isolation.specs.Recall.{space, misformed, homeIn, ownerIn, tokenIn, recall, usedIn}
 use Rattle.isolation.specs.TwoRuns.{IsStore}
 use Rattle.isolation.proofs.Reaching.{touches, reaches-one}
 use Rattle.isolation.proofs.Recall.{agreeing}
@@ -53,6 +54,18 @@ unfolding writes
 writes-write Read e = true-false refl (sym e)
 writes-write Write e = refl
 
+used-through : (m : Machine) (i : Issue) (k : Operation) (r a : ℕ) (storing : Bool) (f : ℕ → Effect) → enrolled (m .tables .guests) (i .call .caller .guest) ≡ true → leb r 15 ≡ true
+    → (p : Accessed (m .tables) (i .call .caller) r a (length (i .buffer)) storing f (decision m i)) → Reaches m i (spaceAt (m .tables .spaces) (p .slot) .id) → (IsStore k → storing ≡ true) → Used m i k r
+used-through m i k r a storing f on b p reaches stores = record {
+  caller = on;
+  small = omega (arith, leb-true r 15 b);
+  slot = p .slot;
+  right = p .right;
+  reached = p .reached;
+  reaches = reaches;
+  write = λ w. writes-write (p .right) (p .writable (stores w));
+}
+
 used-by : (m : Machine) → Ready m → (i : Issue) (k : Operation) (r : ℕ) → Through k r → goodCaller (m .tables) (i .call .caller) k ≡ true
     → AllFit (arguments (m .tables .guests) (i .call .caller) k (length (i .buffer))) → Performed (m .tables) (i .call .caller) k (length (i .buffer)) (decision m i) → Used m i k r
 unfolding goodCaller enrols choose arguments AllFit Performed
@@ -66,24 +79,10 @@ used-by m ready i (Add id right) r t e fit p = absurd t
 used-by m ready i (Remove token) r t e fit p = absurd t
 used-by m ready i (Load register value) r t e fit p = absurd t
 used-by m ready i (Mode k) r t e fit p = absurd t
-used-by m ready i (Fetch register address) r t e fit p = rw (← t) (record {
-  caller = e;
-  small = omega (arith, leb-true register 15 (fit .0));
-  slot = p .slot;
-  right = p .right;
-  reached = p .reached;
-  reaches = rw (p .is) at (touches m ready i);
-  write = λ w. absurd w;
-})
-used-by m ready i (Store register address) r t e fit p = rw (← t) (record {
-  caller = e;
-  small = omega (arith, leb-true register 15 (fit .0));
-  slot = p .slot;
-  right = p .right;
-  reached = p .reached;
-  reaches = rw (p .is) at (touches m ready i);
-  write = λ _. writes-write (p .right) (p .writable refl);
-})
+used-by m ready i (Fetch register address) r t e fit p =
+    rw (← t) (used-through m i (Fetch register address) register address false (λ u. fetch u address) e (fit .0) p (rw (p .is) at (touches m ready i)) (λ w. absurd w))
+used-by m ready i (Store register address) r t e fit p =
+    rw (← t) (used-through m i (Store register address) register address true (λ u. store u address) e (fit .0) p (rw (p .is) at (touches m ready i)) (λ _. refl))
 used-by m ready i Reset r t e fit p = absurd t
 
 -- token 0 gives the guest's home, any other what its last ADD gave

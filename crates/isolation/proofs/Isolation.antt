@@ -42,7 +42,7 @@ turns-varied x m (i ∷ is) (j ∷ js) v = (
   (λ _ e. e),
   record {
     call = v .0 .call;
-    lengths = v .0 .lengths;
+    lengths = sym (v .0 .long);
     same = λ away. v .0 .same (λ r. away (record { id = x; reaches = r .1; inside = eq-eqb x x refl }));
   },
   turns-varied x (step m i .machine) is js (v .1),

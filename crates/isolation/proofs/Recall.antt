@@ -1,16 +1,16 @@
 -- What the record alone tells of tokens and registers is what the tables say, after every list from a fresh state.
 -- Assumes nothing.
 use Prim.Native.Nat.{ℕ, _+_, _≤_}
-use mathlib.Core.Bool.{Bool, true, false, not}
+use mathlib.Core.Bool.{true, false, not}
 use mathlib.Core.List.{List, []}
-use mathlib.Core.Logic.{_≢_, _⊎_, inl, inr}
+use mathlib.Core.Logic.{_⊎_, inl, inr}
 use mathlib.Core.Path.{_≡_, refl, sym, ap, _∙_}
 use native.Mathlib.Decide.{ℕ-discrete, decLe}
 use native.Mathlib.Omega.{arith}
 use lib.Dec.{eqb}
-use borrow.Author.Tests.{eqb-true, eqb-false}
+use borrow.Author.Tests.{eqb-false}
 use Rattle.lists.specs.Choice.{choose}
-use Rattle.lists.proofs.Choice.{true-false, true-or-false, not-of, yes!, no! }
+use Rattle.lists.proofs.Choice.{true-false, true-or-false}
 use Rattle.model.specs.declared.Answer.the-variants.{AlenTranslation}
 use Rattle.model.specs.declared.Entry.{Entry}
 use Rattle.model.specs.declared.Standing.{Standing}
@@ -30,7 +30,7 @@ use Rattle.model.proofs.Searches.{enrolled-guest, primary-lt, named-found, unus
 use Rattle.model.proofs.Tokens.{formed, assigned-sequence, assigned-of}
 use Rattle.isolation.specs.Agrees.{given, Agreeing, Agrees}
 use Rattle.isolation.specs.History.{Event, recorded}
-use Rattle.isolation.specs.Recall.{Given, space, unassigned, recall, homeIn, usedIn}
+use Rattle.isolation.specs.Recall.{unassigned, recall, homeIn, usedIn}
 use Rattle.isolation.proofs.Record.{memory, standingGives, entryGives, Remembers, gives-unused, gives-other, gives-standing}
 use Rattle.isolation.proofs.RecordKept.{ready-run, recorded-all}
 
@@ -91,6 +91,8 @@ module _ (s : State) (ok : Sound s) (g : ℕ) (on : enrolled (s .guests) g ≡ t
 pub agreeing : (s : State) (h : List Event) → Sound s → Remembers s (memory h) → Agreeing s h
 unfolding usedIn tokenUsed
 agreeing s h ok rem = record {
+  owners = rem .owners;
+  grants = λ u g l on. rem .grants u g l (enrolled-guest (s .guests) g on);
   tokens = λ g t on. recall-says s ok g on h rem t;
   used = λ c r on b. let i = enrolled-guest (s .guests) (c .guest) on in rw (rem .modes c i, rem .loads c r i b) refl;
 }

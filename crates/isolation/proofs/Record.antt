@@ -1,6 +1,6 @@
 -- The folds over the record side by side as one memory, what it says of the tables, and what made each recorded call
--- rightful. The calls are taken one by one in RecordSet, RecordMade and RecordWithdrawn, lists in RecordKept.
--- Assumes nothing.
+-- rightful. That calls keep to both is in RecordSet, RecordMade, RecordWithdrawn and RecordKept; what rightful calls ground
+-- is in RecordTells. Assumes nothing.
 use Prim.Native.Nat.{ℕ, _≤_, _<_}
 use mathlib.Core.Bool.{Bool, true, false}
 use mathlib.Core.List.{List, [], _∷_}
@@ -9,9 +9,9 @@ use mathlib.Core.Path.{_≡_, refl, sym, ap, _∙_}
 use native.Mathlib.Decide.{ℕ-discrete}
 use lib.Dec.{eqb}
 use lib.ListN.{getD}
-use borrow.Author.Tests.{ne-eqb, eq-eqb}
-use Rattle.lists.specs.Choice.{choose}
-use Rattle.lists.proofs.Choice.{yes!, no!, choose-same}
+use borrow.Author.Tests.{eqb-true, eq-eqb, ne-eqb}
+use Rattle.lists.specs.Choice.{choose, both}
+use Rattle.lists.proofs.Choice.{not-so, yes!, no!, choose-same, both-left, both-right, both-intro}
 use Rattle.model.specs.declared.Caller.{Caller}
 use Rattle.model.specs.declared.Entry.{Entry}
 use Rattle.model.specs.declared.Grant.{Grant}
@@ -130,6 +130,16 @@ gives-same ss ts e q same = ap (λ x. choose (eqb (e .sequence) q) x unassigned)
     go Unused f = refl
     go (Valid u r) f = ap (λ (y : Space). space (y .id) r) (sym (f u r refl))
     go Revoked f = refl
+
+-- Two pairs of numbers tested at once.
+pub same-pair : (a b c d : ℕ) → a ≡ b → c ≡ d → both (eqb a b) (eqb c d) ≡ true
+same-pair a b c d p q = both-intro _ _ (eq-eqb a b p) (eq-eqb c d q)
+
+pub pair-same : (a b c d : ℕ) → both (eqb a b) (eqb c d) ≡ true → (a ≡ b) × (c ≡ d)
+pair-same a b c d e = (eqb-true a b (both-left _ _ e), eqb-true c d (both-right (eqb a b) _ e))
+
+pub other-pair : (a b c d : ℕ) → (a ≡ b → c ≡ d → ⊥) → both (eqb a b) (eqb c d) ≡ false
+other-pair a b c d n = not-so _ (λ e. let p = pair-same a b c d e in n (p .0) (p .1))
 
 -- An identification names one slot: to ask for it is to ask for the slot.
 pub id-slot : (s : State) → Sound s → (i v : ℕ) → slotOf (s .spaces) i < 32 → Live (s .spaces) v → eqb i (spaceAt (s .spaces) v .id) ≡ eqb (slotOf (s .spaces) i) v

@@ -1,41 +1,38 @@
 -- After every list of calls from a fresh state the memory says what the tables say, and every recorded call was rightful.
 -- Assumes nothing.
-use Prim.Native.Nat.{ℕ, zero, suc, _≤_, _<_}
-use mathlib.Core.Bool.{true, false, not}
+use Prim.Native.Nat.{ℕ, zero, suc, _<_}
+use mathlib.Core.Bool.{true}
 use mathlib.Core.List.{List, [], _∷_}
-use mathlib.Core.Logic.{_≢_, _⊎_, inl, inr, ⊎-elim}
+use mathlib.Core.Logic.{_≢_, inl, inr, ⊎-elim}
 use mathlib.Core.Path.{_≡_, refl, sym, ap, _∙_}
 use native.Mathlib.Omega.{arith}
-use lib.Dec.{leb, eqb}
 use lib.ListN.{length, getD, getD-replicate}
 use borrow.Author.Tests.{eqb-true, eqb-false, leb-true}
-use Rattle.lists.specs.Choice.{choose, both}
-use Rattle.lists.proofs.Choice.{true-false, both-left, both-right, not-to, either-to}
+use Rattle.lists.specs.Choice.{choose}
+use Rattle.lists.proofs.Choice.{both-left, either-to}
 use Rattle.model.specs.declared.Call.{Call}
 use Rattle.model.specs.declared.Caller.{Caller}
 use Rattle.model.specs.declared.Cpu.{Cpu}
 use Rattle.model.specs.declared.Entry.{Entry}
 use Rattle.model.specs.declared.Operation.{Operation}
 use Rattle.model.specs.declared.Operation.the-variants.{Enrol, Create, Destroy, Permit, Isolate, Query, Add, Remove, Load, Mode, Fetch, Store, Reset}
-use Rattle.model.specs.declared.Right.{Right}
 use Rattle.model.specs.declared.Space.{Space}
 use Rattle.model.specs.declared.State.{State}
 use Rattle.model.specs.Answers.{number, value}
 use Rattle.model.specs.Arguments.{arguments}
-use Rattle.model.specs.Calls.{entitled, enrols, mayEnrol, goodCaller}
-use Rattle.model.specs.Changes.{allows}
+use Rattle.model.specs.Calls.{entitled, enrols, goodCaller}
 use Rattle.model.specs.Decision.{Decision}
 use Rattle.model.specs.Fresh.{emptyTables}
 use Rattle.model.specs.Granted.{Performed, AllFit, Granted}
 use Rattle.model.specs.Searches.{slotOf}
 use Rattle.model.specs.Sound.{Live, IsGuest, Sound}
 use Rattle.model.specs.Step.{Machine, Ready, Issue, decision, step, afterRun}
-use Rattle.model.specs.Tables.{noSpace, noCpu, zeroCpu, unusedEntry, spaceAt, guestAt, guestPlace, entryPlace}
+use Rattle.model.specs.Tables.{noSpace, noCpu, zeroCpu, unusedEntry, spaceAt, guestPlace, grantAt, entryPlace}
 use Rattle.model.specs.Tokens.{entryNumber}
 use Rattle.model.specs.Verdict.{row, Verdict, refused, granted}
 use Rattle.model.proofs.Refusals.{performed-number}
 use Rattle.model.proofs.Searches.{enrolled-guest, live-slot, slot-found}
-use Rattle.model.proofs.Sound.{ready-kept}
+use Rattle.model.proofs.Sound.{may-enrol, ready-kept}
 use Rattle.model.proofs.Tokens.{formed}
 use Rattle.model.proofs.Verdict.{verdict}
 use Rattle.isolation.specs.History.{Event, Deed, nothing, deedDone, deedOf, deed, eventOf, recorded}
@@ -44,13 +41,6 @@ use Rattle.isolation.proofs.Record.{Memory, memory, told, Remembers, Ri
 use Rattle.isolation.proofs.RecordMade.{enrol-told, create-told}
 use Rattle.isolation.proofs.RecordSet.{load-told, mode-told, permit-told, add-told, remove-told}
 use Rattle.isolation.proofs.RecordWithdrawn.{destroy-told, isolate-told, reset-told}
-
--- check 2 of ENROL
-may-enrol : (s : State) (g : ℕ) → mayEnrol s g ≡ true → (1 ≤ g) × (guestAt (s .guests) g .enrolled ≡ false)
-unfolding mayEnrol
-may-enrol s g e =
-    let range = both (leb 1 g) (leb g 8) in
-    (leb-true 1 g (both-left (leb 1 g) (leb g 8) (both-left range _ e)), not-to _ (both-right range _ e))
 
 module _ (s : State) (m : Memory) (ok : Sound s) (rem : Remembers s m) (c : Caller) where
   -- every done call
@@ -78,9 +68,12 @@ module _ (s : State) (m : Memory) (ok : Sound s) (rem : Remembers s m) (c : Call
       let q : m .owner i ≡ spaceAt (s .spaces) (slotOf (s .spaces) i) .owner = rw (f .1) at (rem .owners (slotOf (s .spaces) i) (f .0)) in
       ((λ z. omega (arith, q, enrolled-guest (s .guests) _ (ok .spaces .owner (slotOf (s .spaces) i) (f .0)) .low)), q)
 
+  grant-found : (i : ℕ) → slotOf (s .spaces) i < 32 → IsGuest (c .guest) → m .grant i (c .guest) ≡ grantAt (s .permits) (slotOf (s .spaces) i) (c .guest)
+  grant-found i b guest = let f = slot-found (s .spaces) i b in rw (f .1) at (rem .grants (slotOf (s .spaces) i) (c .guest) (f .0) guest)
+
   performed-rightful : (k : Operation) (n : ℕ) (d : Decision) → goodCaller s c k ≡ true → Performed s c k n d → Rightful m (deedDone c k (value (d .answer)))
   unfolding goodCaller enrols choose Performed deedDone value entitled
-  performed-rightful (Enrol pages allowance share list asf) n d e p = rw (p .is) (record { guest = λ z. omega (arith, may-enrol s (c .guest) e .0); above = rem .unowned })
+  performed-rightful (Enrol pages allowance share list asf) n d e p = rw (p .is) (record { guest = λ z. omega (arith, may-enrol s (c .guest) e .0 .low); above = rem .unowned })
   performed-rightful (Create name pages) n d e p = rw (p .made .is) (record { guest = λ z. omega (arith, enrolled-guest (s .guests) (c .guest) e .low); above = rem .unowned })
   performed-rightful (Destroy id) n d e p = tt
   performed-rightful (Permit id guest right) n d e p = let f = owner-found id (p .owning .slot) in (f .0, f .1 ∙ p .owning .owner)
@@ -88,11 +81,7 @@ module _ (s : State) (m : Memory) (ok : Sound s) (rem : Remembers s m) (c : Call
   performed-rightful (Query owner name) n d e p = tt
   performed-rightful (Add id right) n d e p =
       let f = owner-found id (p .slot) in
-      let u = slot-found (s .spaces) id (p .slot) in (
-        f .0,
-        ⊎-elim (λ o. inl (f .1 ∙ eqb-true _ (c .guest) o))
-            (λ a. inr (rw (← u .1) (rw (rem .grants (slotOf (s .spaces) id) (c .guest) (u .0) (enrolled-guest (s .guests) (c .guest) e)) a))) (either-to _ _ (p .right)),
-      )
+      (f .0, ⊎-elim (λ o. inl (f .1 ∙ eqb-true _ (c .guest) o)) (λ a. inr (rw (grant-found id (p .slot) (enrolled-guest (s .guests) (c .guest) e)) a)) (either-to _ _ (p .right)))
   performed-rightful (Remove token) n d e p = tt
   performed-rightful (Load register value) n d e p = tt
   performed-rightful (Mode k) n d e p = tt

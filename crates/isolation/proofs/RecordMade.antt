@@ -3,8 +3,7 @@
 use Prim.Native.Nat.{ℕ, _≤_, _<_}
 use mathlib.Core.Bool.{true, false}
 use mathlib.Core.List.{List}
-use mathlib.Core.Logic.{_≢_}
-use mathlib.Core.Path.{_≡_, refl, sym, ap, _∙_}
+use mathlib.Core.Path.{_≡_, refl, sym, _∙_}
 use native.Mathlib.Omega.{arith}
 use lib.Dec.{eqb}
 use lib.ListN.{length}
@@ -14,9 +13,7 @@ use Rattle.lists.proofs.Choice.{true-false, not-so, yes!, no! }
 use Rattle.lists.proofs.Maps.{at-set}
 use Rattle.model.specs.declared.Grant.the-variants.{Nothing}
 use Rattle.model.specs.declared.Guest.{Guest}
-use Rattle.model.specs.declared.Right.{Right}
 use Rattle.model.specs.declared.Space.{Space}
-use Rattle.model.specs.declared.Standing.the-variants.{Valid}
 use Rattle.model.specs.declared.State.{State}
 use Rattle.model.specs.Answers.{value}
 use Rattle.model.specs.Calls.{made, withEnrolled}

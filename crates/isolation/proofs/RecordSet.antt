@@ -8,9 +8,9 @@ use native.Mathlib.Decide.{ℕ-discrete}
 use native.Mathlib.Omega.{arith}
 use lib.Dec.{eqb}
 use lib.ListN.{length, getD, set}
-use borrow.Author.Tests.{eqb-true, eq-eqb, ne-eqb}
+use borrow.Author.Tests.{eq-eqb, ne-eqb}
 use Rattle.lists.specs.Choice.{choose, both}
-use Rattle.lists.proofs.Choice.{yes!, no!, not-so, both-left, both-right, both-intro, both-no, both-not}
+use Rattle.lists.proofs.Choice.{yes!, no! }
 use Rattle.lists.proofs.Maps.{at-set}
 use Rattle.model.specs.declared.Caller.{Caller}
 use Rattle.model.specs.declared.Cpu.{Cpu}
@@ -34,7 +34,7 @@ use Rattle.model.proofs.Searches.{enrolled-guest, slot-found}
 use Rattle.model.proofs.Tokens.{formed, token-number, token-sequence, assigned-sequence, added-entry}
 use Rattle.isolation.specs.History.{loaded, switched, permitted, added, removed}
 use Rattle.isolation.specs.Recall.{Given, space, unassigned, sameCaller, ownerBy, homeBy, grantBy, tokenBy, modeBy, loadBy}
-use Rattle.isolation.proofs.Record.{Memory, told, standingGives, entryGives, Remembers, gives-unused, gives-other, gives-standing, id-slot}
+use Rattle.isolation.proofs.Record.{Memory, told, standingGives, entryGives, Remembers, gives-unused, gives-other, gives-standing, same-pair, other-pair, id-slot}
 
 module _ (s : State) (m : Memory) (ok : Sound s) (rem : Remembers s m) where
   -- One CPU block is set, caller c's. Another caller is another guest.
@@ -70,9 +70,9 @@ module _ (s : State) (m : Memory) (ok : Sound s) (rem : Remembers s m) where
       rw (done .is)
       (cpu-told c _ (m .mode) (λ a q. choose (both (sameCaller c a) (eqb r q)) v (m .load a q)) i (rem .modes c i) (λ _ _. refl)
       (λ q l. at-set (λ y. choose (both (sameCaller c c) (eqb r q)) v (m .load c q) ≡ y) old r v q 0 (omega (arith, ok .guests .registers (cpuPlace c) (omega arith)))
-      (λ e. yes! _ _ (both-intro _ _ (eq-eqb (c .guest) _ refl) (eq-eqb r q (sym e))))
-      (λ n. no! _ _ (both-not _ (eqb r q) (ne-eqb r q (λ e. n (sym e)))) ∙ rem .loads c q i l))
-      (λ a q n. no! _ _ (both-no _ (ne-eqb (c .guest) (a .guest) (λ e. n (sym e))))))
+      (λ e. yes! _ _ (same-pair (c .guest) (c .guest) r q refl (sym e)))
+      (λ n. no! _ _ (other-pair (c .guest) (c .guest) r q (λ _ e. n (sym e))) ∙ rem .loads c q i l))
+      (λ a q n. no! _ _ (other-pair (c .guest) (a .guest) r q (λ e _. n (sym e)))))
 
   pub mode-told : (c : Caller) (k : ℕ) (d : Decision) → IsGuest (c .guest) → ModeSet s c k d → Remembers (d .after) (told (switched c k) m)
   unfolding ownerBy homeBy grantBy tokenBy modeBy loadBy
@@ -89,7 +89,7 @@ module _ (s : State) (m : Memory) (ok : Sound s) (rem : Remembers s m) where
     homes = rem .homes;
     grants = grants;
     unowned = rem .unowned;
-    unpermitted = λ x k b. no! _ _ (both-no (eqb h k) (ne-eqb i x (λ e. omega (arith, found .1, ok .spaces .id-below u (found .0))))) ∙ rem .unpermitted x k b;
+    unpermitted = λ x k b. no! _ _ (other-pair i x h k (λ e _. omega (arith, found .1, ok .spaces .id-below u (found .0)))) ∙ rem .unpermitted x k b;
     tokens = rem .tokens;
     modes = rem .modes;
     loads = rem .loads;
@@ -112,11 +112,9 @@ module _ (s : State) (m : Memory) (ok : Sound s) (rem : Remembers s m) where
           (at-set (λ (y : Permit). raised-to v (spaceAt (s .spaces) v .id) k ≡ y .grant) (s .permits) (permitPlace u h) _ (permitPlace v k) noPermit (omega (arith, ok .permits .len, done .owning .slot))
           (λ q.
           let e = same-permit u h v k j a q in
-          yes! _ _ (both-intro _ _ (eq-eqb u v (sym (e .0))) (eq-eqb h k (sym (e .1))))
+          yes! _ _ (same-pair u v h k (sym (e .0)) (sym (e .1)))
           ∙ ap (λ y. raised y r) (rem .grants v k l a ∙ ap (λ n. getD (s .permits) n noPermit .grant) q))
-          (λ n.
-          no! _ _ (not-so _ (λ b. n (ap₂ (λ w y. permitPlace w y) (sym (eqb-true u v (both-left _ _ b))) (sym (eqb-true h k (both-right (eqb u v) _ b))))))
-          ∙ rem .grants v k l a))
+          (λ n. no! _ _ (other-pair u v h k (λ e f. n (ap₂ (λ w y. permitPlace w y) (sym e) (sym f)))) ∙ rem .grants v k l a))
 
   -- One entry is set, that of guest g's token k, and k gives v from then on. To any other token of that entry both the old
   -- and the new one give the same.
@@ -143,14 +141,12 @@ module _ (s : State) (m : Memory) (ok : Sound s) (rem : Remembers s m) where
       tokens h t j z f =
           at-set (λ (y : Entry). choose (both (eqb g h) (eqb k t)) v (m .token h t) ≡ entryGives (s .spaces) y (upperHalf t)) (s .entries) (entryPlace g n) x (entryPlace h (entryNumber t)) unusedEntry (omega (arith, ok .entries .len))
           (λ q. here (same-entry g n h (entryNumber t) i e j (formed t z f .entry) q) (ℕ-discrete k t))
-          (λ ne.
-          no! _ _ (not-so _ (λ b. ne (ap₂ (λ a y. entryPlace a (entryNumber y)) (sym (eqb-true g h (both-left _ _ b))) (sym (eqb-true k t (both-right (eqb g h) _ b))))))
-          ∙ rem .tokens h t j z f)
+          (λ ne. no! _ _ (other-pair g h k t (λ a b. ne (ap₂ (λ w y. entryPlace w (entryNumber y)) (sym a) (sym b)))) ∙ rem .tokens h t j z f)
         where
           here : (h ≡ g) × (entryNumber t ≡ n) → Dec (k ≡ t) → choose (both (eqb g h) (eqb k t)) v (m .token h t) ≡ entryGives (s .spaces) x (upperHalf t)
-          here p (yes q) = yes! _ _ (both-intro _ _ (eq-eqb g h (sym (p .0))) (eq-eqb k t q)) ∙ sym now ∙ ap (λ y. entryGives (s .spaces) x (upperHalf y)) q
+          here p (yes q) = yes! _ _ (same-pair g h k t (sym (p .0)) q) ∙ sym now ∙ ap (λ y. entryGives (s .spaces) x (upperHalf y)) q
           here p (no ne) =
-              no! _ _ (both-not (eqb g h) _ (ne-eqb k t ne))
+              no! _ _ (other-pair g h k t (λ _. ne))
               ∙ rem .tokens h t j z f
               ∙ ap₂ (λ a y. entryGives (s .spaces) (entryAt (s .entries) a y) (upperHalf t)) (p .0) (p .1)
               ∙ others (upperHalf t) (λ q. ne (omega (arith, p .1)))

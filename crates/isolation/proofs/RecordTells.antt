@@ -1,7 +1,7 @@
 -- What the folds tell has its ground in earlier deeds, in any record of rightful calls: no table is looked at. Each fold has
 -- one law about a single deed, and one by induction over the record. Assumes nothing.
 use Prim.Native.Nat.{ℕ}
-use mathlib.Core.Bool.{Bool, true, false, not}
+use mathlib.Core.Bool.{Bool, true, false}
 use mathlib.Core.List.{List, [], _∷_}
 use mathlib.Core.Logic.{_≢_, _⊎_, inl, inr, ⊎-elim}
 use mathlib.Core.Path.{_≡_, refl, sym, ap, ap₂, _∙_}
@@ -10,7 +10,7 @@ use native.Mathlib.Omega.{arith}
 use lib.Dec.{eqb}
 use borrow.Author.Tests.{eqb-true, eqb-false, eq-eqb, ne-eqb, not-false}
 use Rattle.lists.specs.Choice.{choose, both}
-use Rattle.lists.proofs.Choice.{true-false, yes!, no!, choose-elim, choose-same, both-left, both-right, both-intro, both-yes}
+use Rattle.lists.proofs.Choice.{true-false, yes!, no!, choose-elim, both-yes}
 use Rattle.model.specs.declared.Grant.{Grant}
 use Rattle.model.specs.declared.Grant.the-variants.{Nothing, Reading, Writing}
 use Rattle.model.specs.declared.Right.{Right}
@@ -19,8 +19,9 @@ use Rattle.model.specs.Changes.{allows, raised}
 use Rattle.isolation.specs.Ground.{Never, Did, Owns, AtLeast, GivesUp, Withdraws, PermittedBefore}
 use Rattle.isolation.specs.History.{Event, Deed, nothing, enrolled, created, destroyed, permitted, isolated, added, removed, loaded, switched, reset, deed}
 use Rattle.isolation.specs.Recall.{Given, space, misformed, unassigned, withdrawn, unless, ownerBy, ownerIn, homeBy, homeIn, grantBy, grantIn, tokenBy, tokenIn}
-use Rattle.isolation.proofs.Record.{Memory, memory, NewTo, Rightful, Proper}
+use Rattle.isolation.proofs.Record.{Memory, memory, NewTo, Rightful, Proper, same-pair, pair-same}
 
+-- a deed of the latest call, and of an earlier one
 pub did-now : (e : Event) (h : List Event) (d : Deed) → deed e ≡ d → Did (e ∷ h) d
 did-now e h d q = record { later = []; event = e; earlier = h; split = refl; is = q }
 
@@ -57,6 +58,7 @@ owner-did [] x o q ne = absurd (ne (sym q))
 owner-did (e ∷ h) x o q ne =
     ⊎-elim (λ b. owns-more e h o x (owner-did h x o b ne)) (owns-now e h o x) (owner-by (deed e) x (ownerIn h x) o q)
 
+-- a rightful deed gives new identifications alone
 pub gave-new : (m : Memory) (d : Deed) (g x : ℕ) → Rightful m d → Gave d g x → NewTo m g x
 gave-new m d g x r = ⊎-elim (λ q. rw q at r) (λ q. rw q at r)
 
@@ -96,6 +98,7 @@ raised-by Nothing Read Write e = true-false refl (sym e)
 raised-by Reading Read Write e = true-false refl (sym e)
 raised-by Writing Read Write e = inr e
 
+-- the deed is a PERMIT of the space to the guest with enough right
 record PermitNow (d : Deed) (x g : ℕ) (r : Right) : Type 0 where
   by : ℕ
   right : Right
@@ -117,7 +120,7 @@ grant-by (destroyed h i) o x g a r e = inr (ended (eqb i x) a r e)
 grant-by (permitted h i k q) o x g a r e =
     choose-elim (λ y. allows y r ≡ true → PermitNow (permitted h i k q) x g r ⊎ (allows a r ≡ true)) (both (eqb i x) (eqb k g)) (raised a q) a
     (λ b f. ⊎-elim
-    (λ enough. inl (record { by = h; right = q; is = ap₂ (λ y z. permitted h y z q) (eqb-true i x (both-left _ _ b)) (eqb-true k g (both-right (eqb i x) _ b)); enough = enough }))
+    (λ enough. inl (record { by = h; right = q; is = let w = pair-same i x k g b in ap₂ (λ y z. permitted h y z q) (w .0) (w .1); enough = enough }))
     (λ before. inr before) (raised-by a q r f))
     (λ _ f. inr f) e
 grant-by (isolated h i) o x g a r e = inr (ended (eqb i x) a r e)
@@ -131,7 +134,7 @@ grant-by (reset h) o x g a r e = inr (ended (eqb h o) a r e)
 grant-spared : (d : Deed) (o x g : ℕ) (a : Grant) (r : Right) → allows (grantBy d o x g a) r ≡ true → Withdraws o x d → ⊥
 unfolding grantBy allows
 grant-spared d o x g a r e =
-    ⊎-elim (λ q. none (eqb x x) (eq-eqb x x refl) (rw q at e)) (λ q. none (eqb o o) (eq-eqb o o refl) (rw q at e))
+    ⊎-elim (λ (q : (k : ℕ) × (d ≡ isolated k x)). none (eqb x x) (eq-eqb x x refl) (rw (q .1) at e)) (λ q. none (eqb o o) (eq-eqb o o refl) (rw q at e))
   where
     none : (t : Bool) → t ≡ true → allows (choose t Nothing a) r ≡ true → ⊥
     none t y f = true-false f (ap (λ z. allows z r) (yes! Nothing a y))
@@ -182,20 +185,24 @@ unless-space t misformed x r e = absurd (omega (arith, ap kind e))
 unless-space t unassigned x r e = absurd (omega (arith, ap kind e))
 unless-space t withdrawn x r e = absurd (omega (arith, ap kind e))
 
--- a deed by which the guest gives the token up leaves no malformed token at that
+-- a deed that leaves even a malformed token at that is none by which the guest gives the token up
 token-held : (d : Deed) (own : ℕ → ℕ) (g t : ℕ) → tokenBy d own g t misformed ≡ misformed → GivesUp g t d → ⊥
 unfolding tokenBy
 token-held d own g t e =
-    ⊎-elim (λ (p : (x : ℕ) × (r : Right) × (d ≡ added g x r t)). omega (arith, left (space (p .0) (p .1)) misformed both-same (rw (p .2) at e)))
-    (⊎-elim (λ q. omega (arith, left unassigned misformed both-same (rw q at e))) (λ q. omega (arith, left unassigned _ (eq-eqb g g refl) (rw q at e))))
+    ⊎-elim (λ (p : (x : ℕ) × (r : Right) × (d ≡ added g x r t)). omega (arith, left (space (p .0) (p .1)) misformed twice (rw (p .2) at e)))
+    (⊎-elim (λ q. omega (arith, left unassigned misformed twice (rw q at e))) (λ q. omega (arith, left unassigned _ (eq-eqb g g refl) (rw q at e))))
   where
-    both-same : both (eqb g g) (eqb t t) ≡ true
-    both-same = both-intro _ _ (eq-eqb g g refl) (eq-eqb t t refl)
+    twice : both (eqb g g) (eqb t t) ≡ true
+    twice = same-pair g g t t refl refl
 
     left : {b : Bool} (v w : Given) → b ≡ true → choose b v w ≡ misformed → kind v ≡ 1
     left v w y f = ap kind (sym (yes! v w y) ∙ f)
 
-token-by : (d : Deed) (own : ℕ → ℕ) (g t : ℕ) (a : Given) (x : ℕ) (r : Right) → tokenBy d own g t a ≡ space x r → (d ≡ added g x r t) ⊎ ((a ≡ space x r) × (GivesUp g t d → ⊥))
+-- a token that gives a space was added by the deed, or gave that space before and was not given up
+abbrev AddedOrHeld : Deed → (guest token : ℕ) → Given → (id : ℕ) → Right → Type 0
+AddedOrHeld d g t a x r = (d ≡ added g x r t) ⊎ ((a ≡ space x r) × (GivesUp g t d → ⊥))
+
+token-by : (d : Deed) (own : ℕ → ℕ) (g t : ℕ) (a : Given) (x : ℕ) (r : Right) → tokenBy d own g t a ≡ space x r → AddedOrHeld d g t a x r
 unfolding tokenBy unless
 token-by nothing own g t a x r e = inr (e, token-held nothing own g t refl)
 token-by (enrolled h i) own g t a x r e = inr (e, token-held (enrolled h i) own g t refl)
@@ -204,17 +211,17 @@ token-by (destroyed h i) own g t a x r e = inr (unless-space (eqb i) a x r e .0,
 token-by (permitted h i k q) own g t a x r e = inr (e, token-held (permitted h i k q) own g t refl)
 token-by (isolated h i) own g t a x r e = inr (unless-space _ a x r e .0, token-held (isolated h i) own g t refl)
 token-by (added h i q k) own g t a x r e =
-    choose-elim (λ y. y ≡ space x r → (added h i q k ≡ added g x r t) ⊎ ((a ≡ space x r) × (GivesUp g t (added h i q k) → ⊥))) (both (eqb h g) (eqb k t)) (space i q) a
-    (λ b f. let u = eqb-true h g (both-left _ _ b) in let w = eqb-true k t (both-right (eqb h g) _ b) in inl (cc))
+    choose-elim (λ y. y ≡ space x r → AddedOrHeld (added h i q k) g t a x r) (both (eqb h g) (eqb k t)) (space i q) a
+    (λ b f. let w = pair-same h g k t b in inl (cc))
     (λ n f. inr (f, token-held (added h i q k) own g t (no! _ _ n))) e
 token-by (removed h k) own g t a x r e =
-    choose-elim (λ y. y ≡ space x r → (removed h k ≡ added g x r t) ⊎ ((a ≡ space x r) × (GivesUp g t (removed h k) → ⊥))) (both (eqb h g) (eqb k t)) unassigned a
+    choose-elim (λ y. y ≡ space x r → AddedOrHeld (removed h k) g t a x r) (both (eqb h g) (eqb k t)) unassigned a
     (λ _ f. absurd (omega (arith, ap kind f)))
     (λ n f. inr (f, token-held (removed h k) own g t (no! _ _ n))) e
 token-by (loaded c q v) own g t a x r e = inr (e, token-held (loaded c q v) own g t refl)
 token-by (switched c k) own g t a x r e = inr (e, token-held (switched c k) own g t refl)
 token-by (reset h) own g t a x r e =
-    choose-elim (λ y. y ≡ space x r → (reset h ≡ added g x r t) ⊎ ((a ≡ space x r) × (GivesUp g t (reset h) → ⊥))) (eqb h g) unassigned (unless (λ y. eqb (own y) h) a)
+    choose-elim (λ y. y ≡ space x r → AddedOrHeld (reset h) g t a x r) (eqb h g) unassigned (unless (λ y. eqb (own y) h) a)
     (λ _ f. absurd (omega (arith, ap kind f)))
     (λ n f. inr (unless-space (λ y. eqb (own y) h) a x r f .0, token-held (reset h) own g t (no! _ _ n))) e
 
@@ -223,7 +230,7 @@ token-spared : (d : Deed) (own : ℕ → ℕ) (g t : ℕ) (a : Given) (x : ℕ) 
 unfolding tokenBy
 token-spared d own g t a x r e ne =
     ⊎-elim
-    (λ q. ne (eqb-true (own x) g (not-false _ (sym (both-yes _ (eq-eqb x x refl)) ∙ unless-space _ a x r (rw q at e) .1))))
+    (λ (q : (k : ℕ) × (d ≡ isolated k x)). ne (eqb-true (own x) g (not-false _ (sym (both-yes _ (eq-eqb x x refl)) ∙ unless-space _ a x r (rw (q .1) at e) .1))))
     (λ q. eqb-false (own x) (own x) (unless-space (λ y. eqb (own y) (own x)) a x r (sym (no! unassigned _ (ne-eqb (own x) g ne)) ∙ (rw q at e)) .1) refl)
 
 -- the ADD that a token rests on

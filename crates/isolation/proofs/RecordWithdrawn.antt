@@ -1,6 +1,6 @@
 -- DESTROY, ISOLATE and RESET: spaces are withdrawn, and the memory follows. One law, over the sets of slots that the
 -- withdrawal is given by, serves the three. Assumes nothing.
-use Prim.Native.Nat.{ℕ, _<_}
+use Prim.Native.Nat.{ℕ}
 use mathlib.Core.Bool.{Bool, true, false, not}
 use mathlib.Core.List.{List}
 use mathlib.Core.Logic.{_≢_}
@@ -21,7 +21,6 @@ use Rattle.model.specs.Calls.{resetTables}
 use Rattle.model.specs.Changes.{revokedFrom, revoked, releasedAll, loses, withdrawn}
 use Rattle.model.specs.Decision.{Decision}
 use Rattle.model.specs.Granted.{Destroyed, Isolated, ResetDone}
-use Rattle.model.specs.Names.{baseName}
 use Rattle.model.specs.Searches.{isOwned, isData, slotOf}
 use Rattle.model.specs.Sound.{Live, IsGuest, Sound}
 use Rattle.model.specs.Tables.{spaceAt, entryAt, withEntries}
@@ -76,7 +75,7 @@ eqb-comm a b = go (ℕ-discrete a b)
 
 module _ (s : State) (m : Memory) (ok : Sound s) (rem : Remembers s m) where
   module _ (gone closed : ℕ → Bool) where
-    -- es are the entries after the call
+    -- the law: `cut` tests the identifications of closed slots, es are the entries after the call
     withdrawn-told : (es : List Entry) (cut : ℕ → Bool) (token : ℕ → ℕ → Given) → ((u : ℕ) → Live (s .spaces) u → cut (spaceAt (s .spaces) u .id) ≡ closed u)
         → ((g t : ℕ) → IsGuest g → t ≢ 0 → malformed t ≡ false → token g t ≡ entryGives (withdrawn gone closed s .spaces) (entryAt es g (entryNumber t)) (upperHalf t))
         → Remembers (withEntries (withdrawn gone closed s) es) (record { owner = m .owner; home = m .home; grant = λ x g. choose (cut x) Nothing (m .grant x g); token = token; mode = m .mode; load = m .load })

@@ -7,10 +7,10 @@ use native.Mathlib.Decide.{decLe}
 use native.Mathlib.Omega.{arith}
 use borrow.Author.Tests.{eq-eqb}
 use Rattle.lists.proofs.Choice.{yes! }
-use Rattle.isolation.specs.Ground.{Did, Owns, Gives, Rising, RisingIds, OneOwner}
+use Rattle.isolation.specs.Ground.{Did, Owns, Rising, RisingIds, OneOwner}
 use Rattle.isolation.specs.History.{Event, Deed, enrolled, created, deed}
 use Rattle.isolation.specs.Recall.{ownerBy, ownerIn}
-use Rattle.isolation.proofs.Record.{memory, Rightful, Proper}
+use Rattle.isolation.proofs.Record.{memory, Proper}
 use Rattle.isolation.proofs.RecordKept.{recorded-all}
 use Rattle.isolation.proofs.RecordTells.{Gave, gave-new, owner-kept}
 

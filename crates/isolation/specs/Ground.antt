@@ -43,9 +43,9 @@ AtLeast Write r = Unit {0}
 abbrev pub GivesUp : (guest token : ℕ) → Deed → Type 0
 GivesUp g t d = ((x : ℕ) × (r : Right) × (d ≡ added g x r t)) ⊎ ((d ≡ removed g t) ⊎ (d ≡ reset g))
 
--- the space is isolated by its owner, or the owner resets
+-- the space is isolated, or its owner resets
 abbrev pub Withdraws : (owner id : ℕ) → Deed → Type 0
-Withdraws o x d = (d ≡ isolated o x) ⊎ (d ≡ reset o)
+Withdraws o x d = ((g : ℕ) × (d ≡ isolated g x)) ⊎ (d ≡ reset o)
 
 -- "a PERMIT of that space to it by the owner, with at least the ADD's right, came before that ADD, with no ISOLATE of that
 -- space and no RESET by the owner since that PERMIT". `add` is what was recorded since the ADD, `earlier` what before it.

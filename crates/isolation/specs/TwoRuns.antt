@@ -92,7 +92,7 @@ pub record OutsideSpace (s : State) (u : ℕ) (m₁ m₂ : List ℕ) : Type 0 wh
 -- filled alike
 pub record StoreMayDiffer (id : ℕ) (m : Machine) (i j : Issue) : Type 0 where
   pub call : i .call ≡ j .call
-  pub lengths : length (i .buffer) ≡ length (j .buffer)
+  pub long : length (j .buffer) ≡ length (i .buffer)
   pub same : (IsStore (i .call .operation) × Reaches m i id → ⊥) → i .buffer ≡ j .buffer
 
 unfoldable pub StoresVaried : (id : ℕ) → Machine → (first second : List Issue) → Type 0

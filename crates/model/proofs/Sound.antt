@@ -36,7 +36,7 @@ use Rattle.model.proofs.SoundTest.{sound-decides}
 use Rattle.model.proofs.Verdict.{verdict}
 
 -- check 2 of ENROL
-may-enrol : (s : State) (g : ℕ) → mayEnrol s g ≡ true → IsGuest g × (guestAt (s .guests) g .enrolled ≡ false)
+pub may-enrol : (s : State) (g : ℕ) → mayEnrol s g ≡ true → IsGuest g × (guestAt (s .guests) g .enrolled ≡ false)
 unfolding mayEnrol
 may-enrol s g e =
     let r = both-left (both (leb 1 g) (leb g 8)) _ e in
