@@ -92,14 +92,16 @@ sound-reset s g d ok c =
     rw (c .is) (sound-released (withdrawn gone closed s) g
     (sound-withdrawn s gone closed ok (λ u e. both-left (closed u) _ e) (λ u e l. eqb-false _ baseName (not-to _ (both-right (closed u) _ e)))))
 
+-- a standing that the test spares stays
+pub standing-stays : (t : ℕ → Bool) (x : Standing) → ((u : ℕ) (r : Right) → x ≡ Valid u r → t u ≡ false) → revokedFrom t x ≡ x
+unfolding revokedFrom
+standing-stays t Unused f = refl
+standing-stays t (Valid u r) f = no! Revoked (Valid u r) (f u r refl)
+standing-stays t Revoked f = refl
+
 none-revoked : (t : ℕ → Bool) (e : Entry) → ((u : ℕ) (r : Right) → e .standing ≡ Valid u r → t u ≡ false) → revoked t e ≡ e
-unfolding revoked revokedFrom
-none-revoked t e f = ap (λ x. record { standing = x; sequence = e .sequence }) (go (e .standing) f)
-  where
-    go : (x : Standing) → ((u : ℕ) (r : Right) → x ≡ Valid u r → t u ≡ false) → revokedFrom t x ≡ x
-    go Unused f = refl
-    go (Valid u r) f = no! Revoked (Valid u r) (f u r refl)
-    go Revoked f = refl
+unfolding revoked
+none-revoked t e f = ap (λ x. record { standing = x; sequence = e .sequence }) (standing-stays t (e .standing) f)
 
 -- "ISOLATE .. On a private space it is done and changes nothing."
 module _ (s : State) (u : ℕ) (ok : Sound s) (hidden : (h : ℕ) → IsGuest h → allows (grantAt (s .permits) u h) Read ≡ false) where

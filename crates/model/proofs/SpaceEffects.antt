@@ -6,14 +6,14 @@ use mathlib.Core.List.{List}
 use mathlib.Core.Logic.{_≢_, inl, inr, ⊎-elim}
 use mathlib.Core.Path.{_≡_, refl, sym, ap, _∙_}
 use native.Mathlib.Omega.{arith}
-use lib.Dec.{leb, eqb}
+use lib.Dec.{eqb}
 use lib.ListN.{set, replicate}
 use lib.Seq.{getD-set-same, getD-set-other}
-use borrow.Author.Tests.{eq-eqb, leb-true}
+use borrow.Author.Tests.{eq-eqb}
 use Rattle.lists.specs.Choice.{choose}
 use Rattle.lists.specs.Decides.{Decides}
 use Rattle.lists.specs.Lowest.{Lowest}
-use Rattle.lists.proofs.Choice.{true-false, not-so, yes!, no!, choose-elim, both-left, both-right}
+use Rattle.lists.proofs.Choice.{true-false, not-so, yes!, no!, choose-elim}
 use Rattle.lists.proofs.Decides.{d-eq, d-both, d-either, d-not, d-map}
 use Rattle.model.specs.declared.Caller.{Caller}
 use Rattle.model.specs.declared.Entry.{Entry}
@@ -27,7 +27,7 @@ use Rattle.model.specs.declared.Standing.{Standing}
 use Rattle.model.specs.declared.Standing.the-variants.{Unused, Valid, Revoked}
 use Rattle.model.specs.declared.State.{State}
 use Rattle.model.specs.Answers.{value}
-use Rattle.model.specs.Calls.{made, withEnrolled, resetTables, enrols, mayEnrol, goodCaller}
+use Rattle.model.specs.Calls.{made, withEnrolled, resetTables, enrols, goodCaller}
 use Rattle.model.specs.Changes.{released, releasedFrom, revokedFrom, revoked, loses, withdrawn}
 use Rattle.model.specs.Decision.{Decision, none, accept}
 use Rattle.model.specs.Frames.{layout, frameOf, bytesOf}
@@ -40,10 +40,10 @@ use Rattle.model.specs.Step.{scratchAfter}
 use Rattle.model.specs.Tables.{noSpace, noGuest, spaceAt, guestAt, guestPlace, grantAt, entryAt, withNext, withSpaces, withGuests, withPermits, withEntries}
 use Rattle.model.proofs.Effects.{IsSpace, is-space, by, Done, all, ok, guest}
 use Rattle.model.proofs.Entries.{same-guest, released-unused}
-use Rattle.model.proofs.Reset.{released-own, released-other}
+use Rattle.model.proofs.Reset.{standing-stays, released-own, released-other}
 use Rattle.model.proofs.Runs.{lowest-run, lowest-slot}
 use Rattle.model.proofs.Searches.{d-live, named-none}
-use Rattle.model.proofs.Sound.{sound-kept}
+use Rattle.model.proofs.Sound.{may-enrol, sound-kept}
 use Rattle.model.proofs.SpaceBytes.{clear-own}
 use Rattle.model.proofs.Withdraw.{withdrawn-gone, withdrawn-kept, withdrawn-live, withdrawn-frame, withdrawn-grant, withdrawn-revoked}
 
@@ -173,13 +173,8 @@ module _ (s : State) (gone closed : ℕ → Bool) where
       let is = withdrawn-revoked s gone closed h n i j in
       record {
         lost = λ u r v l. is ∙ ap (λ y. record { standing = y; sequence = x .sequence }) (ap (revokedFrom _) v ∙ yes! Revoked (Valid u r) (d u .of l));
-        kept = λ f. is ∙ ap (λ y. record { standing = y; sequence = x .sequence }) (same (x .standing) (λ u r v. not-so _ (λ e. f u r v (d u .to e))));
+        kept = λ f. is ∙ ap (λ y. record { standing = y; sequence = x .sequence }) (standing-stays (loses (s .spaces) gone closed h) (x .standing) (λ u r v. not-so _ (λ e. f u r v (d u .to e))));
       }
-    where
-      same : (x : Standing) → ((u : ℕ) (r : Right) → x ≡ Valid u r → loses (s .spaces) gone closed h u ≡ false) → revokedFrom (loses (s .spaces) gone closed h) x ≡ x
-      same Unused f = refl
-      same (Valid u r) f = no! Revoked (Valid u r) (f u r refl)
-      same Revoked f = refl
 
   -- no live space has a frame of one that is gone
   frames-go : Sound s → (v u p q : ℕ) → gone v ≡ true → Live (s .spaces) v → Live (withdrawn gone closed s .spaces) u → p < spaceAt (withdrawn gone closed s .spaces) u .pages
@@ -217,11 +212,9 @@ module _ (s : State) (m : ℕ) (c : Caller) (n : ℕ) where
   abbrev g : ℕ
   g = c .guest
 
-  may-enrol : (pages allowance share list asf : ℕ) → Done s m c n (Enrol pages allowance share list asf) → IsGuest g
-  unfolding goodCaller enrols choose mayEnrol
-  may-enrol pages allowance share list asf done =
-      let e = both-left _ _ (all s m c n (Enrol pages allowance share list asf) done .caller) in
-      record { low = leb-true 1 g (both-left _ _ e); high = leb-true g 8 (both-right (leb 1 g) _ e) }
+  enrolling : (pages allowance share list asf : ℕ) → Done s m c n (Enrol pages allowance share list asf) → IsGuest g
+  unfolding goodCaller enrols choose
+  enrolling pages allowance share list asf done = may-enrol s g (all s m c n (Enrol pages allowance share list asf) done .caller) .0
 
   pub enrol-does : (pages allowance share list asf : ℕ) → Done s m c n (Enrol pages allowance share list asf) → EnrolEffect s g pages allowance share list asf (by s m c n (Enrol pages allowance share list asf))
   unfolding Performed withEnrolled made
@@ -229,7 +222,7 @@ module _ (s : State) (m : ℕ) (c : Caller) (n : ℕ) where
       let k = Enrol pages allowance share list asf in
       let p = all s m c n k done .performed in
       let fine = ok s m c n k done in
-      let i = may-enrol pages allowance share list asf done in
+      let i = enrolling pages allowance share list asf done in
       let y : Guest = record { enrolled = true; allowance = allowance; share = eqb share 1; list = list; asf = eqb asf 1 } in
       let is : by s m c n k .after .guests ≡ set (s .guests) (guestPlace g) y = ap (λ (d : Decision). d .after .guests) (p .is) in
       record {
