@@ -1,12 +1,14 @@
 -- Laws of bytes written and read address by address. Assumes nothing.
 use Prim.Native.Nat.{ℕ, zero, suc, _+_, _-_, _≤_, _<_}
-use mathlib.Core.List.{List, [], _∷_, _++_}
+use mathlib.Core.List.{List, [], _∷_, _++_, append-nil}
 use mathlib.Core.Logic.{_≢_}
 use mathlib.Core.Path.{_≡_, refl, sym, ap, ap₂, _∙_}
 use native.Mathlib.Decide.{ℕ-discrete, decLe}
+use native.Mathlib.Nat.{zero-add}
+use native.Mathlib.Numerals.{add-one}
 use native.Mathlib.Omega.{arith}
-use lib.ListN.{length, getD, set, take, drop, replicate, length-set, length-take, length-drop, length-append, List·getD-append}
-use lib.Seq.{getD-set-same, getD-set-other, ext-getD, getD-take, getD-drop, length-take-le, getD-append-add}
+use lib.ListN.{length, getD, set, take, drop, replicate, length-set, length-take, length-drop, length-append, drop-of-length-le, List·getD-append}
+use lib.Seq.{getD-set-same, getD-set-other, ext-getD, getD-take, getD-drop, length-take-le, take-all, drop-drop, getD-append-add, paste, paste-zero, paste-suc}
 use Rattle.lists.specs.Bytes.{over, part, put, get}
 
 -- a part taken out, and a part replaced
@@ -46,6 +48,48 @@ module _ {A : Type 0} where
       ∙ getD-append-add x (drop (p + length x) l) n d
       ∙ getD-drop (p + length x) l n d
       ∙ ap (λ k. getD l k d) (omega arith)
+
+  -- the first elements, all of them, and a list replaced whole
+  pub part-all : (x : List A) (n : ℕ) → length x ≤ n → part x 0 n ≡ x
+  unfolding part
+  part-all x n h = take-all n x h
+
+  pub over-whole : (l x : List A) → length l ≡ length x → over l 0 x ≡ x
+  unfolding over
+  over-whole l x e =
+      ap (λ r. x ++ r) (drop-of-length-le l {i = 0 + length x} (omega arith)) ∙ append-nil x
+
+  -- a loop that writes x over the front of l, an element a turn: t is l with the first i elements of x
+  over-paste : (l x : List A) (i : ℕ) → i ≤ length x → paste l 0 x i ≡ over l 0 (part x 0 i)
+  unfolding over part
+  over-paste l x i h = rw (length-take-le i x h)
+
+  pub copy-none : (l x : List A) → l ≡ over l 0 (part x 0 0)
+  copy-none l x = paste-zero l 0 x ∙ over-paste l x 0 (omega arith)
+
+  pub copy-turn : (l x t : List A) (i : ℕ) (v d : A) → t ≡ over l 0 (part x 0 i) → i < length x → i < length l → v ≡ getD x i d → set t i v ≡ over l 0 (part x 0 (i + 1))
+  copy-turn l x t i v d e hx hl q =
+      ap₂ (λ y w. set y i w) (e ∙ sym (over-paste l x i (omega arith))) q
+      ∙ ap (λ k. set (paste l 0 x i) k (getD x i d)) (sym (zero-add i))
+      ∙ paste-suc l 0 x i d (omega arith) hx
+      ∙ ap (paste l 0 x) (sym (add-one i))
+      ∙ over-paste l x (i + 1) (omega arith)
+
+  -- a list lent from p on: what is taken of it, and how it comes back with x over its front
+  lent : (l : List A) (p : ℕ) → take (length l - p) (drop p l) ≡ drop p l
+  lent l p = take-all (length l - p) (drop p l) (omega (arith, length-drop p l))
+
+  pub part-lent : (l t : List A) (p n : ℕ) → t ≡ part (take (length l - p) (drop p l)) 0 n → t ≡ part l p n
+  unfolding part
+  part-lent l t p n e = e ∙ ap (take n) (lent l p)
+
+  pub over-lent : (l x y : List A) (p : ℕ) → y ≡ over (take (length l - p) (drop p l)) 0 x → take p l ++ (y ++ drop (length l - p) (drop p l)) ≡ over l p x
+  unfolding over
+  over-lent l x y p e =
+      ap (λ r. take p l ++ r)
+      (ap₂ _++_ (e ∙ ap (λ r. x ++ drop (0 + length x) r) (lent l p)) (drop-of-length-le (drop p l) {i = length l - p} (omega (arith, length-drop p l)))
+      ∙ append-nil _
+      ∙ ap (λ r. x ++ r) (drop-drop (0 + length x) p l ∙ ap (λ k. drop (p + k) l) (zero-add (length x))))
 
 -- one byte stored in two lists that agree there, or whatever they held
 set-agree : (m n : List ℕ) (q b p : ℕ) → length m ≡ length n → (p ≢ q → getD m p 0 ≡ getD n p 0) → getD (set m q b) p 0 ≡ getD (set n q b) p 0

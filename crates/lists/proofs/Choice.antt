@@ -37,6 +37,12 @@ unfolding choose
 choose-elim P true a b f g = f refl
 choose-elim P false a b f g = g refl
 
+-- two choices by one test, equal where they are taken
+pub choose-eq : {A : Type 0} (t : Bool) {a b x y : A} → (t ≡ true → a ≡ x) → (t ≡ false → b ≡ y) → choose t a b ≡ choose t x y
+unfolding choose
+choose-eq true f g = f refl
+choose-eq false f g = g refl
+
 pub choose-same : {A : Type 0} (t : Bool) (a : A) → choose t a a ≡ a
 unfolding choose
 choose-same true a = refl
@@ -71,6 +77,12 @@ pub both-not : (a b : Bool) → b ≡ false → both a b ≡ false
 unfolding both
 both-not true b e = e
 both-not false b e = refl
+
+-- the second is asked only where the first holds
+pub both-when : (a b c : Bool) → (a ≡ true → b ≡ c) → both a b ≡ both a c
+unfolding both
+both-when true b c f = f refl
+both-when false b c f = refl
 
 pub both-comm : (a b : Bool) → both a b ≡ both b a
 unfolding both

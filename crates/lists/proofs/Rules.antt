@@ -2,13 +2,16 @@
 -- is a law of this library, stated so that its conclusion fits what a need asks. Assumes nothing.
 use Prim.Native.Nat.{ℕ, _+_, _-_, _≤_, _<_}
 use mathlib.Core.Bool.{Bool, true, false, not}
+use mathlib.Core.List.{List}
 use mathlib.Core.Path.{_≡_, refl, sym, ap, _∙_}
 use native.Mathlib.Omega.{arith}
 use lib.Dec.{leb}
+use lib.ListN.{length, getD, set}
 use borrow.Author.Tests.{lt-ltb, le-ltb, le-leb, lt-leb, eq-eqb, ne-eqb, not-true, not-false}
 use Rattle.lists.specs.Choice.{choose, both, either, implies}
-use Rattle.lists.specs.Places.{allFrom, lowestFrom}
+use Rattle.lists.specs.Places.{allFrom, lowestFrom, mapPlaces}
 use Rattle.lists.proofs.Choice.{true-false, yes!, no!, both-yes, both-no, either-left, either-right, either-none, implies-of}
+use Rattle.lists.proofs.Maps.{mapBelow, below-none, below-more, below-all}
 use Rattle.lists.proofs.Places.{all-yes, all-no, all-end, lowest-yes, lowest-no, lowest-end}
 
 -- a choice
@@ -112,3 +115,15 @@ pub lowest-done : (x : ℕ) (p : ℕ → Bool) (i e : ℕ) → x ≡ lowestFrom 
 lowest-done x p i e v l = sym (v ∙ lowest-end p i e l)
 
 pub ruleset loops = (all-go, all-stop, all-done, lowest-go, lowest-stop, lowest-done, test-no, test-yes, is-of, eq-eqb, ne-eqb, arith)
+
+-- a loop that changes every place from 0 on
+pub map-start : {A : Type 0} (f : ℕ → A → A) (l : List A) → l ≡ mapBelow f 0 l
+map-start f l = below-none f l
+
+pub map-go : {A : Type 0} (f : ℕ → A → A) (l t : List A) (i : ℕ) (x d : A) → t ≡ mapBelow f i l → x ≡ f i (getD t i d) → i < length l → set t i x ≡ mapBelow f (i + 1) l
+map-go f l t i x d e p h = below-more f l t i x d h e p
+
+pub map-done : {A : Type 0} (f : ℕ → A → A) (l t : List A) (i n : ℕ) → t ≡ mapBelow f i l → length l ≡ n → n ≤ i → t ≡ mapPlaces f l
+map-done f l t i n e len h = e ∙ below-all f l i (omega arith)
+
+pub ruleset maps = (map-start, map-go, map-done)

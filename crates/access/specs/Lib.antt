@@ -1,0 +1,2 @@
+pub mod Translated
+pub mod Transferred

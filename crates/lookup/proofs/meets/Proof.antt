@@ -1,0 +1,51 @@
+-- `lookup::meets` meets its contract. Assumes nothing.
+use borrow.Author.Needs.{needs}
+use Rattle.lists.proofs.Rules.{tests}
+use Rattle.lookup.specs.Meeting.{meets}
+use Rattle.lookup.proofs.meets.Statement.{statement}
+use Rattle.lookup.proofs.meets.Tie as tie
+
+returns : tie.Need-returns
+unfolding meets
+returns c = search (tests, needs) depth 8
+
+returns-2 : tie.Need-returns-2
+unfolding meets
+returns-2 c = search (tests, needs) depth 8
+
+cast-if3 : tie.Need-cast-if3
+cast-if3 c = search needs
+
+add-if3 : tie.Need-add-if3
+add-if3 c = search needs
+
+returns-3 : tie.Need-returns-3
+unfolding meets
+returns-3 c = search (tests, needs) depth 8
+
+cast-result : tie.Need-cast-result
+cast-result c = search needs
+
+cast-result-2 : tie.Need-cast-result-2
+cast-result-2 c = search needs
+
+add-result : tie.Need-add-result
+add-result c = search needs
+
+returns-4 : tie.Need-returns-4
+unfolding meets
+returns-4 c = search (tests, needs) depth 8
+
+pub meets-spec : {M : Type 1} → statement M
+meets-spec =
+    tie.close
+    (tie.spec
+    returns
+    returns-2
+    cast-if3
+    add-if3
+    returns-3
+    cast-result
+    cast-result-2
+    add-result
+    returns-4)

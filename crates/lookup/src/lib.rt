@@ -1,0 +1,210 @@
+// Looking things up in the tables. A search that finds nothing gives the number of places.
+ghost use Prim.Native.Nat.{_+_, _-_, _≤_, _<_};
+ghost use mathlib.Core.Path.{_≡_};
+ghost use Rattle.lists.specs.Choice.{choose};
+ghost use Rattle.lookup.specs.Meeting.{meets as meetsRun, meetingSlot};
+ghost use Rattle.model.specs.Leaves.{callerPlace};
+ghost use Rattle.model.specs.Searches.{isSpace, isOwned, isNamed, isData, slotOf, slotNamed, freeSlot, dataSpaces, freeEntry, runIn};
+ghost use Rattle.model.specs.Tables.{live};
+use model::Entry;
+use model::Guest;
+use model::Space;
+
+// The place of an enrolled guest; 8 for any other number.
+pub fn caller_place(guests: [Guest; 8], g: u32) -> usize
+    ensures { λ r. ⌜ r ≡ callerPlace guests g ⌝ }
+{
+    if g == 0 {
+        return 8;
+    }
+    if 8 < g {
+        return 8;
+    }
+    let at = (g - 1) as usize;
+    if guests[at].enrolled {
+        return at;
+    }
+    8
+}
+
+pub fn is_live(x: Space) -> bool
+    ensures { λ r. ⌜ r ≡ live x ⌝ }
+{
+    x.id != 0
+}
+
+fn is_space(x: Space, id: u32) -> bool
+    ensures { λ r. ⌜ r ≡ isSpace id x ⌝ }
+{
+    if !is_live(x) {
+        return false;
+    }
+    x.id == id
+}
+
+pub fn is_owned(x: Space, owner: u32) -> bool
+    ensures { λ r. ⌜ r ≡ isOwned owner x ⌝ }
+{
+    if x.id == 0 {
+        return false;
+    }
+    let o = x.owner as u32;
+    o == owner
+}
+
+fn is_named(x: Space, owner: u32, name: u64) -> bool
+    ensures { λ r. ⌜ r ≡ isNamed owner name x ⌝ }
+{
+    if !is_owned(x, owner) {
+        return false;
+    }
+    x.name == name
+}
+
+// A space of that owner that is not its primary space: that one's name is BASE.
+pub fn is_data(x: Space, owner: u32) -> bool
+    ensures { λ r. ⌜ r ≡ isData owner x ⌝ }
+{
+    if !is_owned(x, owner) {
+        return false;
+    }
+    x.name != 4774188636346261536
+}
+
+// The slot of the live space with that identification.
+pub fn find_space(spaces: [Space; 32], id: u32) -> usize
+    ensures { λ r. ⌜ r ≡ slotOf spaces id ⌝ }
+{
+    let mut u = 0usize;
+    while u < 32 {
+        let x = spaces[u];
+        if is_space(x, id) {
+            return u;
+        }
+        u += 1;
+    }
+    u
+}
+
+// The slot of the live space with that owner and name.
+pub fn find_named(spaces: [Space; 32], owner: u32, name: u64) -> usize
+    ensures { λ r. ⌜ r ≡ slotNamed spaces owner name ⌝ }
+{
+    let mut u = 0usize;
+    while u < 32 {
+        let x = spaces[u];
+        if is_named(x, owner, name) {
+            return u;
+        }
+        u += 1;
+    }
+    u
+}
+
+// The lowest slot with no live space.
+pub fn free_slot(spaces: [Space; 32]) -> usize
+    ensures { λ r. ⌜ r ≡ freeSlot spaces ⌝ }
+{
+    let mut u = 0usize;
+    while u < 32 {
+        let x = spaces[u];
+        if x.id == 0 {
+            return u;
+        }
+        u += 1;
+    }
+    u
+}
+
+fn one_more(n: u32, more: bool) -> u32
+    requires { ⌜ n < 32 ⌝ }
+    ensures { λ r. ⌜ r ≡ choose more (n + 1) n ⌝ }
+{
+    if more {
+        return n + 1;
+    }
+    n
+}
+
+// How many data spaces a guest owns.
+pub fn data_spaces(spaces: [Space; 32], owner: u32) -> u32
+    ensures { λ r. ⌜ r ≡ dataSpaces spaces owner ⌝ }
+{
+    let mut n = 0u32;
+    for u in 0..32usize {
+        let x = spaces[u];
+        n = one_more(n, is_data(x, owner));
+    }
+    n
+}
+
+// The lowest unused entry of the list at a guest's place, counted from 0.
+pub fn free_entry(entries: [Entry; 240], place: usize, list: usize) -> usize
+    requires { ⌜ (place < 8) × (list ≤ 30) ⌝ }
+    ensures { λ r. ⌜ r ≡ freeEntry entries (place + 1) list ⌝ }
+{
+    let mut k = 0usize;
+    while k < list {
+        let e = entries[place * 30 + k];
+        if entries::is_unused(e) {
+            return k;
+        }
+        k += 1;
+    }
+    k
+}
+
+// Whether a space is live and has one of `pages` frames from `first` on. One with no page has no frame.
+fn meets(x: Space, first: u32, pages: u32) -> bool
+    requires { ⌜ first + pages < 4294967296 ⌝ }
+    ensures { λ r. ⌜ r ≡ meetsRun first pages x ⌝ }
+{
+    if x.id == 0 {
+        return false;
+    }
+    if x.pages == 0 {
+        return false;
+    }
+    if x.first as u32 >= first + pages {
+        return false;
+    }
+    first < x.first as u32 + x.pages as u32
+}
+
+// The lowest slot of a live space that has one of `pages` frames from `first` on.
+fn meeting(spaces: [Space; 32], first: u32, pages: u32) -> usize
+    requires { ⌜ first + pages < 4294967296 ⌝ }
+    ensures { λ r. ⌜ r ≡ meetingSlot spaces first pages ⌝ }
+{
+    let mut u = 0usize;
+    while u < 32 {
+        let x = spaces[u];
+        if meets(x, first, pages) {
+            return u;
+        }
+        u += 1;
+    }
+    u
+}
+
+// Where the lowest run of free frames starts; the number of frames where there is none. Where a space has a frame of the
+// run that is tried, it has one of every run that starts before its end, so the next to try starts there.
+pub fn free_run(spaces: [Space; 32], frames: u32, pages: u32) -> u32
+    requires { ⌜ 1 ≤ pages ⌝ }
+    ensures { λ r. ⌜ r ≡ runIn frames spaces spaces pages ⌝ }
+{
+    if frames < pages {
+        return frames;
+    }
+    let last = frames - pages;
+    let mut first = 0u32;
+    while first <= last {
+        let u = meeting(spaces, first, pages);
+        if 32 <= u {
+            return first;
+        }
+        let x = spaces[u];
+        first = x.first as u32 + x.pages as u32;
+    }
+    frames
+}

@@ -1,0 +1,52 @@
+-- `moves::fill` meets its contract.
+use Prim.Native.Nat.{_-_}
+use lib.ListN.{length}
+use borrow.Author.Needs.{needs}
+use Rattle.moves.proofs.Copied.{Copied, turns}
+use Rattle.moves.proofs.fill.Statement.{statement}
+use Rattle.moves.proofs.fill.Tie as tie
+
+abbrev Inv-loop : tie.InvT-loop
+Inv-loop dst₀ src j₀ dst j = Copied dst₀ src dst j
+
+abbrev μ-loop : tie.MeasureT-loop
+μ-loop dst₀ src j₀ dst j = length dst₀ - j
+
+loop-holds : tie.Need-loop-holds Inv-loop μ-loop
+loop-holds c = search turns
+
+shared-slice-read-dst : tie.Need-shared-slice-read-dst Inv-loop μ-loop
+shared-slice-read-dst c = search needs
+
+slice-write-dst : tie.Need-slice-write-dst Inv-loop μ-loop
+slice-write-dst c = search needs
+
+add-j : tie.Need-add-j Inv-loop μ-loop
+add-j c = search needs
+
+loop-less : tie.Need-loop-less Inv-loop μ-loop
+loop-less c = search needs
+
+loop-again : tie.Need-loop-again Inv-loop μ-loop
+loop-again c = search turns
+
+same-length : tie.Need-same-length Inv-loop μ-loop
+same-length c = search needs
+
+returns : tie.Need-returns Inv-loop μ-loop
+returns c = search turns
+
+pub fill-spec : {M : Type 1} → statement M
+fill-spec =
+    tie.close
+    (tie.spec
+    Inv-loop
+    μ-loop
+    loop-holds
+    shared-slice-read-dst
+    slice-write-dst
+    add-j
+    loop-less
+    loop-again
+    same-length
+    returns)

@@ -1,0 +1,2 @@
+-- What the table of bytes holds.
+pub mod Later

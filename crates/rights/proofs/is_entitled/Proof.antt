@@ -1,0 +1,20 @@
+-- `rights::is_entitled` meets its contract. Assumes nothing.
+use borrow.Author.Needs.{needs}
+use Rattle.lists.proofs.Rules.{tests, calls}
+use Rattle.rights.proofs.is_entitled.Statement.{statement}
+use Rattle.rights.proofs.is_entitled.Tie as tie
+
+cast-if1 : tie.Need-cast-if1
+cast-if1 c = search needs
+
+returns : tie.Need-returns
+returns c = search (tests, calls) depth 8
+
+allows-requires : tie.Need-allows-requires
+allows-requires c κs = search needs
+
+returns-2 : tie.Need-returns-2
+returns-2 c = search (tests, calls) depth 8
+
+pub is-entitled-spec : {M : Type 1} → statement M
+is-entitled-spec = tie.close (tie.spec cast-if1 returns allows-requires returns-2)

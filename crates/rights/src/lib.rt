@@ -1,0 +1,217 @@
+// PERMIT, QUERY, ADD and REMOVE, for callers that hold a sound state.
+ghost use Prim.Native.Nat.{_<_};
+ghost use mathlib.Core.Bool.{true};
+ghost use mathlib.Core.Path.{_≡_};
+ghost use Rattle.lists.specs.Choice.{either};
+ghost use Rattle.model.specs.Calls.{judge};
+ghost use Rattle.model.specs.Changes.{allows};
+ghost use Rattle.model.specs.Replies.{reply, replied, callOf};
+ghost use Rattle.model.specs.SoundTest.{sound};
+ghost use Rattle.rights.specs.Entered.{entered};
+ghost use Rattle.model.specs.declared.Operation.the-variants.{Permit as PermitCall, Query, Add, Remove};
+ghost use lib.Dec.{eqb};
+use model::Answer;
+use model::Caller;
+use model::Entry;
+use model::Kind;
+use model::Permit;
+use model::Reply;
+use model::Right;
+use model::Space;
+use model::Standing;
+use model::State;
+
+// A call that is refused changes nothing.
+fn refuse(s: State, a: Answer) -> Reply
+    ensures { λ r. ⌜ r ≡ reply a s ⌝ }
+{
+    Reply {
+        answer: a,
+        state: s,
+    }
+}
+
+// The right becomes the greater of old and new.
+pub fn permit(mut s: State, caller: Caller, id: u32, guest: u32, right: Right) -> Reply
+    requires { ⌜ sound s ≡ true ⌝ }
+    ensures { λ r. ⌜ r ≡ replied (judge s (callOf caller (PermitCall id guest right)) 0) ⌝ }
+{
+    let gs = s.guests;
+    let at = lookup::caller_place(gs, caller.guest);
+    if 8 <= at {
+        return refuse(s, Answer::BadCaller);
+    }
+    let to = lookup::caller_place(gs, guest);
+    if 8 <= to {
+        return refuse(
+            s,
+            Answer::Limit {
+                kind: Kind::OtherGuest,
+                place: 3,
+            },
+        );
+    }
+    if guest == caller.guest {
+        return refuse(
+            s,
+            Answer::Limit {
+                kind: Kind::OtherGuest,
+                place: 3,
+            },
+        );
+    }
+    let ss = s.spaces;
+    let u = lookup::find_space(ss, id);
+    if 32 <= u {
+        return refuse(s, Answer::NoSpace);
+    }
+    let x = ss[u];
+    if x.owner as u32 != caller.guest {
+        return refuse(s, Answer::NotOwner);
+    }
+    let g = gs[at];
+    if !g.share {
+        return refuse(s, Answer::NoSharing);
+    }
+    let p = s.permits[u * 8 + to];
+    let old = p.grant;
+    let grant = entries::raise(old, right);
+    s.permits[u * 8 + to] = Permit { grant };
+    Reply {
+        answer: Answer::Done { value: 0 },
+        state: s,
+    }
+}
+
+// Whether a guest owns a space, or has a permit for it that allows the right.
+fn is_entitled(x: Space, p: Permit, guest: u32, right: Right) -> bool
+    ensures { λ r. ⌜ r ≡ either (eqb (x .owner) guest) (allows (p .grant) right) ⌝ }
+{
+    if x.owner as u32 == guest {
+        return true;
+    }
+    let grant = p.grant;
+    entries::allows(grant, right)
+}
+
+// An absent space and one that the caller may not read are answered alike. No table changes.
+pub fn query(s: State, caller: Caller, owner: u32, name: u64) -> Answer
+    requires { ⌜ sound s ≡ true ⌝ }
+    ensures { λ r. ⌜ r ≡ judge s (callOf caller (Query owner name)) 0 .answer ⌝ }
+{
+    let gs = s.guests;
+    let at = lookup::caller_place(gs, caller.guest);
+    if 8 <= at {
+        return Answer::BadCaller;
+    }
+    if owner == 0 {
+        return Answer::Limit {
+            kind: Kind::OtherGuest,
+            place: 2,
+        };
+    }
+    if 8 < owner {
+        return Answer::Limit {
+            kind: Kind::OtherGuest,
+            place: 2,
+        };
+    }
+    if !names::good_name(name) {
+        return Answer::Limit {
+            kind: Kind::Name,
+            place: 3,
+        };
+    }
+    let ss = s.spaces;
+    let u = lookup::find_named(ss, owner, name);
+    if 32 <= u {
+        return Answer::NoSpace;
+    }
+    let x = ss[u];
+    let p = s.permits[u * 8 + at];
+    if !is_entitled(x, p, caller.guest, Right::Read) {
+        return Answer::NoSpace;
+    }
+    Answer::Done { value: x.id }
+}
+
+// Entry k of the list at a guest's place, counted from 0, stands for a space. The value is its token; entries are numbered
+// from 2.
+fn enter(mut s: State, place: usize, k: usize, slot: usize, right: Right) -> Reply
+    requires { ⌜ (place < 8) × ((k < 30) × (slot < 32)) ⌝ }
+    ensures { λ r. ⌜ r ≡ entered s place k slot right ⌝ }
+{
+    let e = s.entries[place * 30 + k];
+    s.entries[place * 30 + k] = Entry {
+        standing: Standing::Valid {
+            slot: slot as u8,
+            right,
+        },
+        sequence: e.sequence,
+    };
+    Reply {
+        answer: Answer::Done {
+            value: e.sequence as u32 * 65536 + (k as u32 + 2),
+        },
+        state: s,
+    }
+}
+
+// The lowest unused entry of the list stands for the space.
+pub fn add(mut s: State, caller: Caller, id: u32, right: Right) -> Reply
+    requires { ⌜ sound s ≡ true ⌝ }
+    ensures { λ r. ⌜ r ≡ replied (judge s (callOf caller (Add id right)) 0) ⌝ }
+{
+    let gs = s.guests;
+    let at = lookup::caller_place(gs, caller.guest);
+    if 8 <= at {
+        return refuse(s, Answer::BadCaller);
+    }
+    let ss = s.spaces;
+    let u = lookup::find_space(ss, id);
+    if 32 <= u {
+        return refuse(s, Answer::NoSpace);
+    }
+    let x = ss[u];
+    let p = s.permits[u * 8 + at];
+    if !is_entitled(x, p, caller.guest, right) {
+        return refuse(s, Answer::NotPermitted);
+    }
+    let g = gs[at];
+    let list = g.list as usize;
+    let es = s.entries;
+    let k = lookup::free_entry(es, at, list);
+    if list <= k {
+        return refuse(s, Answer::ListFull);
+    }
+    enter(s, at, k, u, right)
+}
+
+// Valid or revoked, the entry becomes unused.
+pub fn remove(mut s: State, caller: Caller, token: u32) -> Reply
+    requires { ⌜ sound s ≡ true ⌝ }
+    ensures { λ r. ⌜ r ≡ replied (judge s (callOf caller (Remove token)) 0) ⌝ }
+{
+    let gs = s.guests;
+    let at = lookup::caller_place(gs, caller.guest);
+    if 8 <= at {
+        return refuse(s, Answer::BadCaller);
+    }
+    if token == 0 {
+        return refuse(s, Answer::AletSpecification);
+    }
+    if entries::is_malformed(token) {
+        return refuse(s, Answer::AletSpecification);
+    }
+    let g = gs[at];
+    let place = at * 30 + ((token % 65536) as usize - 2);
+    let e = s.entries[place];
+    if !entries::is_assigned(e, g.list, token) {
+        return refuse(s, Answer::AlenTranslation);
+    }
+    s.entries[place] = entries::release(e);
+    Reply {
+        answer: Answer::Done { value: 0 },
+        state: s,
+    }
+}

@@ -1,0 +1,91 @@
+-- The sets of slots that the three calls withdraw, as the tables that the code makes. Assumes nothing.
+use Prim.Native.Nat.{ℕ, _+_, _≤_, _<_}
+use mathlib.Core.Bool.{Bool, true, false}
+use mathlib.Core.List.{List}
+use mathlib.Core.Path.{_≡_, refl, sym, _∙_}
+use native.Mathlib.Decide.{decLe}
+use native.Mathlib.Omega.{arith}
+use lib.Dec.{eqb}
+use lib.ListN.{length, set, replicate, getD-replicate, List·getD-eq-default}
+use borrow.Author.Tests.{eqb-true, eq-eqb, ne-eqb}
+use Rattle.lists.proofs.Choice.{both-right, both-no}
+use Rattle.lists.proofs.Maps.{at-set, mapBelow, below-done, below-left}
+use Rattle.lists.proofs.Rules.{map-start, map-go}
+use Rattle.model.specs.declared.Space.{Space}
+use Rattle.model.specs.Leaves.{flag}
+use Rattle.model.specs.Searches.{isOwned, isData}
+use Rattle.model.specs.Tables.{noSpace, spaceAt, live}
+use Rattle.withdrawing.specs.Sets.{IsSet, Sets, ownedSlots, dataSlots}
+
+-- no slot
+pub none-set : IsSet (λ v. false) (replicate 33 false)
+none-set = record { holds = λ v. go v (decLe 33 v); last = refl }
+  where
+    go : (v : ℕ) → Dec (33 ≤ v) → flag (replicate 33 false) v ≡ false
+    go v (yes h) = List·getD-eq-default (replicate 33 false) false {n = v} h
+    go v (no h) = getD-replicate 33 v false false (omega arith)
+
+-- one slot
+pub only-set : (u : ℕ) → u < 32 → IsSet (eqb u) (set (replicate 33 false) u true)
+only-set u h = record { holds = holds; last = holds 32 ∙ ne-eqb u 32 (λ e. omega arith) }
+  where
+    holds : (v : ℕ) → flag (set (replicate 33 false) u true) v ≡ eqb u v
+    holds v =
+        at-set (λ b. b ≡ eqb u v) (replicate 33 false) u true v false (omega arith)
+        (λ e. sym (eq-eqb u v (sym e)))
+        (λ ne. none-set .holds v ∙ sym (ne-eqb u v (λ e. ne (sym e))))
+
+-- The slots below i of which p holds: what a loop over all slots has found so far, one turn of it, and its end.
+unfoldable pub slotsBelow : (ℕ → Bool) → ℕ → List Bool
+slotsBelow p i = mapBelow (λ u b. p u) i (replicate 33 false)
+
+module _ (p : ℕ → Bool) where
+  pub slots-start : replicate 33 false ≡ slotsBelow p 0
+  unfolding slotsBelow
+  slots-start = map-start _ (replicate 33 false)
+
+  pub slots-go : (t : List Bool) (i : ℕ) (x : Bool) → t ≡ slotsBelow p i → x ≡ p i → i < 32 → set t i x ≡ slotsBelow p (i + 1)
+  unfolding slotsBelow
+  slots-go t i x e y h = map-go _ (replicate 33 false) t i x false e y (omega arith)
+
+  slots-done : (t : List Bool) (i : ℕ) → t ≡ slotsBelow p i → i ≤ 32 → 32 ≤ i → ((v : ℕ) → 32 ≤ v → p v ≡ false) → IsSet p t
+  unfolding slotsBelow
+  slots-done t i e l m none = rw e (record { holds = λ v. go v (decLe 32 v); last = go 32 (decLe 32 32) ∙ none 32 (omega arith) })
+    where
+      go : (v : ℕ) → Dec (32 ≤ v) → flag (slotsBelow p i) v ≡ p v
+      go v (yes h) = below-left _ (replicate 33 false) i v false (omega arith) ∙ none-set .holds v ∙ sym (none v h)
+      go v (no h) = below-done _ (replicate 33 false) i v false (omega arith) (omega arith)
+
+-- The spaces of a guest. A slot that no table has holds no space, so no guest's.
+module _ (ss : List Space) (g : ℕ) where
+  pub owned-is : (x : Bool) (u : ℕ) → x ≡ isOwned g (spaceAt ss u) → x ≡ ownedSlots ss g u
+  unfolding ownedSlots
+  owned-is x u e = e
+
+  pub data-is : (x : Bool) (u : ℕ) → x ≡ isData g (spaceAt ss u) → x ≡ dataSlots ss g u
+  unfolding dataSlots
+  data-is x u e = e
+
+  owned-past : length ss ≡ 32 → (v : ℕ) → 32 ≤ v → isOwned g (spaceAt ss v) ≡ false
+  owned-past len v h = rw (List·getD-eq-default ss noSpace {n = v} (omega arith)) (both-no _ refl)
+
+  pub owned-set : (t : List Bool) (i : ℕ) → t ≡ slotsBelow (ownedSlots ss g) i → i ≤ 32 → 32 ≤ i → length ss ≡ 32 → IsSet (ownedSlots ss g) t
+  unfolding ownedSlots
+  owned-set t i e l m len = slots-done _ t i e l m (owned-past len)
+
+  pub data-set : (t : List Bool) (i : ℕ) → t ≡ slotsBelow (dataSlots ss g) i → i ≤ 32 → 32 ≤ i → length ss ≡ 32 → IsSet (dataSlots ss g) t
+  unfolding dataSlots
+  data-set t i e l m len = slots-done _ t i e l m (λ v h. both-no _ (owned-past len v h))
+
+pub ruleset slots = (only-set, slots-start, slots-go, owned-is, data-is, owned-set, data-set)
+
+-- What withdrawing asks of the two sets: where one slot is closed, and where all of a guest's are.
+module _ (ss : List Space) (g : ℕ) (gone closed : List Bool) where
+  pub one-asked : (u : ℕ) (p : ℕ → Bool) → IsSet (eqb u) closed → IsSet p gone → spaceAt ss u .owner ≡ g → Sets ss g gone closed
+  one-asked u p c n o = record { gone-last = n .last; closed-last = c .last; owner = λ v e. rw (← eqb-true u v (sym (c .holds v) ∙ e)) o }
+
+  pub owned-asked : (p : ℕ → Bool) → IsSet (ownedSlots ss g) closed → IsSet p gone → Sets ss g gone closed
+  unfolding ownedSlots
+  owned-asked p c n = record { gone-last = n .last; closed-last = c .last; owner = λ v e. eqb-true _ g (both-right (live (spaceAt ss v)) _ (sym (c .holds v) ∙ e)) }
+
+pub ruleset sets = (none-set, one-asked, owned-asked)

@@ -1,0 +1,2 @@
+-- What the tables and the loops of this crate are proved equal to.
+pub mod Sets

@@ -1,0 +1,46 @@
+-- The two sets of slots over which spaces are withdrawn, as tables of 33 Booleans: places 0 to 31 are slots, and the last,
+-- where an entry that names no slot looks, is false.
+use Prim.Native.Nat.{ℕ}
+use mathlib.Core.Bool.{Bool, true, false, not}
+use mathlib.Core.List.{List}
+use mathlib.Core.Path.{_≡_}
+use lib.Dec.{ltb, eqb}
+use Rattle.lists.specs.Choice.{choose, both, either}
+use Rattle.model.specs.declared.Entry.{Entry}
+use Rattle.model.specs.declared.Space.{Space}
+use Rattle.model.specs.declared.Standing.{Standing}
+use Rattle.model.specs.declared.Standing.the-variants.{Unused, Valid, Revoked}
+use Rattle.model.specs.Leaves.{flag}
+use Rattle.model.specs.Searches.{isOwned, isData}
+use Rattle.model.specs.Tables.{spaceAt}
+
+-- the table l is the set of the slots of which p holds
+pub record IsSet (p : ℕ → Bool) (l : List Bool) : Type 0 where
+  pub holds : (u : ℕ) → flag l u ≡ p u
+  pub last : flag l 32 ≡ false
+
+-- the slots of a guest's spaces, and of its data spaces
+unfoldable pub ownedSlots : List Space → (guest slot : ℕ) → Bool
+ownedSlots ss g u = isOwned g (spaceAt ss u)
+
+unfoldable pub dataSlots : List Space → (guest slot : ℕ) → Bool
+dataSlots ss g u = isData g (spaceAt ss u)
+
+-- two sets to withdraw by: guest g owns every closed space
+pub record Sets (ss : List Space) (g : ℕ) (gone closed : List Bool) : Type 0 where
+  pub gone-last : flag gone 32 ≡ false
+  pub closed-last : flag closed 32 ≡ false
+  pub owner : (u : ℕ) → flag closed u ≡ true → spaceAt ss u .owner ≡ g
+
+-- the place at which an entry looks: the slot that it names, else the last
+unfoldable pub lookPlace : Standing → ℕ
+lookPlace Unused = 32
+lookPlace (Valid u r) = choose (ltb u 32) u 32
+lookPlace Revoked = 32
+
+-- `loses` of the model, where guest g owns every closed space
+unfoldable pub losesTo : (owner : ℕ) → (gone closed : ℕ → Bool) → (guest slot : ℕ) → Bool
+losesTo g gone closed h u = either (gone u) (both (closed u) (not (eqb g h)))
+
+abbrev pub revokedEntry : Entry → Entry
+revokedEntry e = record { standing = Revoked; sequence = e .sequence }

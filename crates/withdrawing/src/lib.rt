@@ -1,0 +1,309 @@
+// DESTROY, ISOLATE and RESET: one change over two sets of slots, `gone`, whose spaces are destroyed, and `closed`, whose
+// permits go. A set is a table of Booleans. Its last place is no slot and false: an entry that names no slot looks there, so
+// that every entry is looked up alike.
+ghost use Prim.Native.Nat.{_+_, _<_};
+ghost use mathlib.Core.Bool.{true, false, not};
+ghost use mathlib.Core.Path.{_≡_};
+ghost use lib.Dec.{eqb};
+ghost use Rattle.lists.specs.Choice.{choose, both, either};
+ghost use Rattle.model.specs.Calls.{judge};
+ghost use Rattle.model.specs.Changes.{released, releasedAll, vacated, unpermitted, revokedAll, withdrawn};
+ghost use Rattle.model.specs.Leaves.{flag};
+ghost use Rattle.model.specs.Replies.{replied, callOf};
+ghost use Rattle.model.specs.SoundTest.{sound};
+ghost use Rattle.model.specs.Tables.{noSpace, noPermit};
+ghost use Rattle.model.specs.declared.Operation.the-variants.{Destroy, Isolate, Reset};
+ghost use Rattle.withdrawing.specs.Sets.{IsSet, Sets, ownedSlots, dataSlots, lookPlace, losesTo, revokedEntry};
+use model::Answer;
+use model::Caller;
+use model::Entry;
+use model::Grant;
+use model::Permit;
+use model::Reply;
+use model::Space;
+use model::Standing;
+use model::State;
+
+// The name of a primary space, BASE and four blanks.
+const BASE: u64 = 4774188636346261536;
+
+fn space_unless(x: Space, gone: bool) -> Space
+    ensures { λ r. ⌜ r ≡ choose gone noSpace x ⌝ }
+{
+    if gone {
+        return Space {
+            id: 0,
+            owner: 0,
+            name: 0,
+            first: 0,
+            pages: 0,
+        };
+    }
+    x
+}
+
+fn vacate(spaces: [Space; 32], gone: [bool; 33]) -> [Space; 32]
+    ensures { λ r. ⌜ r ≡ vacated (flag gone) spaces ⌝ }
+{
+    let mut t = spaces;
+    for u in 0..32usize {
+        let x = t[u];
+        t[u] = space_unless(x, gone[u]);
+    }
+    t
+}
+
+fn permit_unless(p: Permit, closed: bool) -> Permit
+    ensures { λ r. ⌜ r ≡ choose closed noPermit p ⌝ }
+{
+    if closed {
+        return Permit {
+            grant: Grant::Nothing,
+        };
+    }
+    p
+}
+
+fn unpermit(permits: [Permit; 256], closed: [bool; 33]) -> [Permit; 256]
+    ensures { λ r. ⌜ r ≡ unpermitted (flag closed) permits ⌝ }
+{
+    let mut t = permits;
+    for k in 0..256usize {
+        let p = t[k];
+        t[k] = permit_unless(p, closed[k / 8]);
+    }
+    t
+}
+
+// Where an entry looks in a set of slots: at the slot that it names, else at the last place.
+fn look_place(e: Entry) -> usize
+    ensures { λ r. ⌜ r ≡ lookPlace (e .standing) ⌝ }
+{
+    let x = e.standing;
+    match x {
+        Standing::Unused => 32,
+        Standing::Valid { slot, right: _ } => {
+            if slot < 32 {
+                return slot as usize;
+            }
+            32
+        }
+        Standing::Revoked => 32,
+    }
+}
+
+// Every guest loses its entry for a space that is gone, and for a closed one every guest but the owner.
+fn is_lost(gone: bool, closed: bool, own: bool) -> bool
+    ensures { λ r. ⌜ r ≡ either gone (both closed (not own)) ⌝ }
+{
+    if gone {
+        return true;
+    }
+    if closed {
+        return !own;
+    }
+    false
+}
+
+fn revoke_if(e: Entry, lost: bool) -> Entry
+    ensures { λ r. ⌜ r ≡ choose lost (revokedEntry e) e ⌝ }
+{
+    if lost {
+        return Entry {
+            standing: Standing::Revoked,
+            sequence: e.sequence,
+        };
+    }
+    e
+}
+
+fn revoke(entries: [Entry; 240], owner: u32, gone: [bool; 33], closed: [bool; 33]) -> [Entry; 240]
+    requires { ⌜ (flag gone 32 ≡ false) × (flag closed 32 ≡ false) ⌝ }
+    ensures { λ r. ⌜ r ≡ revokedAll (losesTo owner (flag gone) (flag closed)) entries ⌝ }
+{
+    let own = owner as usize;
+    let mut t = entries;
+    for k in 0..240usize {
+        let e = t[k];
+        let u = look_place(e);
+        t[k] = revoke_if(e, is_lost(gone[u], closed[u], own == k / 30 + 1));
+    }
+    t
+}
+
+fn release_if(e: Entry, own: bool) -> Entry
+    ensures { λ r. ⌜ r ≡ choose own (released e) e ⌝ }
+{
+    if own {
+        return entries::release(e);
+    }
+    e
+}
+
+// All entries of a guest become unused.
+fn release_all(entries: [Entry; 240], guest: u32) -> [Entry; 240]
+    ensures { λ r. ⌜ r ≡ releasedAll guest entries ⌝ }
+{
+    let own = guest as usize;
+    let mut t = entries;
+    for k in 0..240usize {
+        let e = t[k];
+        t[k] = release_if(e, k / 30 + 1 == own);
+    }
+    t
+}
+
+// The one change. All closed spaces have one owner, so an entry need not look up whose its space is.
+fn withdraw(s: State, owner: u32, gone: [bool; 33], closed: [bool; 33]) -> State
+    requires { ⌜ Sets (s .spaces) owner gone closed ⌝ }
+    ensures { λ r. ⌜ r ≡ withdrawn (flag gone) (flag closed) s ⌝ }
+{
+    let spaces = s.spaces;
+    let permits = s.permits;
+    let entries = s.entries;
+    let spaces_after = vacate(spaces, gone);
+    let permits_after = unpermit(permits, closed);
+    let entries_after = revoke(entries, owner, gone, closed);
+    let mut t = s;
+    t.spaces = spaces_after;
+    t.permits = permits_after;
+    t.entries = entries_after;
+    t
+}
+
+// The set of one slot.
+fn only(u: usize) -> [bool; 33]
+    requires { ⌜ u < 32 ⌝ }
+    ensures { λ r. ⌜ IsSet (eqb u) r ⌝ }
+{
+    let mut t = [false; 33];
+    t[u] = true;
+    t
+}
+
+// The slots of a guest's data spaces.
+fn data_slots(spaces: [Space; 32], owner: u32) -> [bool; 33]
+    ensures { λ r. ⌜ IsSet (dataSlots spaces owner) r ⌝ }
+{
+    let mut t = [false; 33];
+    for u in 0..32usize {
+        let x = spaces[u];
+        t[u] = lookup::is_data(x, owner);
+    }
+    t
+}
+
+// The slots of all spaces of a guest.
+fn owned_slots(spaces: [Space; 32], owner: u32) -> [bool; 33]
+    ensures { λ r. ⌜ IsSet (ownedSlots spaces owner) r ⌝ }
+{
+    let mut t = [false; 33];
+    for u in 0..32usize {
+        let x = spaces[u];
+        t[u] = lookup::is_owned(x, owner);
+    }
+    t
+}
+
+// Every valid entry for the space becomes revoked, its permits vanish, and its frames are free for use again.
+pub fn destroy(s: State, caller: Caller, id: u32) -> Reply
+    requires { ⌜ sound s ≡ true ⌝ }
+    ensures { λ r. ⌜ r ≡ replied (judge s (callOf caller (Destroy id)) 0) ⌝ }
+{
+    let guests = s.guests;
+    let at = lookup::caller_place(guests, caller.guest);
+    if 8 <= at {
+        return Reply {
+            answer: Answer::BadCaller,
+            state: s,
+        };
+    }
+    let spaces = s.spaces;
+    let u = lookup::find_space(spaces, id);
+    if 32 <= u {
+        return Reply {
+            answer: Answer::NoSpace,
+            state: s,
+        };
+    }
+    let x = spaces[u];
+    if x.owner as u32 != caller.guest {
+        return Reply {
+            answer: Answer::NotOwner,
+            state: s,
+        };
+    }
+    if x.name == BASE {
+        return Reply {
+            answer: Answer::PrimarySpace,
+            state: s,
+        };
+    }
+    let one = only(u);
+    Reply {
+        answer: Answer::Done { value: 0 },
+        state: withdraw(s, caller.guest, one, one),
+    }
+}
+
+// All permits for the space go, and with them other guests' entries for it; the owner's stay.
+pub fn isolate(s: State, caller: Caller, id: u32) -> Reply
+    requires { ⌜ sound s ≡ true ⌝ }
+    ensures { λ r. ⌜ r ≡ replied (judge s (callOf caller (Isolate id)) 0) ⌝ }
+{
+    let guests = s.guests;
+    let at = lookup::caller_place(guests, caller.guest);
+    if 8 <= at {
+        return Reply {
+            answer: Answer::BadCaller,
+            state: s,
+        };
+    }
+    let spaces = s.spaces;
+    let u = lookup::find_space(spaces, id);
+    if 32 <= u {
+        return Reply {
+            answer: Answer::NoSpace,
+            state: s,
+        };
+    }
+    let x = spaces[u];
+    if x.owner as u32 != caller.guest {
+        return Reply {
+            answer: Answer::NotOwner,
+            state: s,
+        };
+    }
+    let none = [false; 33];
+    let one = only(u);
+    Reply {
+        answer: Answer::Done { value: 0 },
+        state: withdraw(s, caller.guest, none, one),
+    }
+}
+
+// The caller's data spaces are destroyed, its primary space is isolated, and all its entries become unused.
+pub fn reset(s: State, caller: Caller) -> Reply
+    requires { ⌜ sound s ≡ true ⌝ }
+    ensures { λ r. ⌜ r ≡ replied (judge s (callOf caller Reset) 0) ⌝ }
+{
+    let guests = s.guests;
+    let at = lookup::caller_place(guests, caller.guest);
+    if 8 <= at {
+        return Reply {
+            answer: Answer::BadCaller,
+            state: s,
+        };
+    }
+    let spaces = s.spaces;
+    let gone = data_slots(spaces, caller.guest);
+    let closed = owned_slots(spaces, caller.guest);
+    let mut t = withdraw(s, caller.guest, gone, closed);
+    let kept = t.entries;
+    let freed = release_all(kept, caller.guest);
+    t.entries = freed;
+    Reply {
+        answer: Answer::Done { value: 0 },
+        state: t,
+    }
+}
