@@ -2,6 +2,7 @@ pub mod Reaching
 pub mod Moved
 pub mod TwoRuns
 pub mod Isolation
+pub mod Instance
 pub mod Record
 pub mod RecordSet
 pub mod RecordMade
@@ -11,3 +12,4 @@ pub mod Recall
 pub mod RecordTells
 pub mod Rising
 pub mod Grounded
+pub mod Records

@@ -4,6 +4,7 @@
 pub mod Reaches
 -- First half: two runs of one list that differ in one space
 pub mod TwoRuns
+pub mod Instance
 -- Second half: the ground that earlier calls give for each fetch or store
 pub mod History
 pub mod Recall
