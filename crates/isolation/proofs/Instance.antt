@@ -9,56 +9,22 @@ use native.Mathlib.Omega.{arith}
 use lib.ListN.{length, getD, set, length-set, length-replicate, getD-replicate}
 use lib.Seq.{getD-set-same, getD-set-other}
 use Rattle.lists.specs.Bytes.{put, get}
-use Rattle.lists.specs.Choice.{choose, both, either, implies}
-use Rattle.lists.specs.Places.{allFrom, every, lowestFrom, lowest, count, mapFrom, mapPlaces, placesFrom}
 use Rattle.model.specs.declared.Right.the-variants.{Write}
-use Rattle.model.specs.Answers.{number, value}
-use Rattle.model.specs.Arguments.{arguments, checkAll}
-use Rattle.model.specs.Calls.{made, making, create, owning, destroy, isolate, entitled, add, remove, load, writes, accessAt, access, target, fetching, storing, perform, enrols, goodCaller, judge, ready, decide}
-use Rattle.model.specs.Changes.{allows, releasedFrom, released, revokedFrom, revoked, vacated, unpermitted, loses, revokedAll, withdrawn}
-use Rattle.model.specs.Decision.{check}
-use Rattle.model.specs.Frames.{frameOf, placeOf, framesOf, frameFree}
-use Rattle.model.specs.Fresh.{framesInRange}
-use Rattle.model.specs.Names.{blanks, nameRest, nameForm, nameBytes, goodName}
-use Rattle.model.specs.Searches.{enrolled, slotOf, slotNamed, primarySlot, primaries, dataSpaces, freeSlot, runFree, runIn, isUnused, freeEntry}
+use Rattle.model.specs.Answers.{number}
 use Rattle.model.specs.Sound.{Live}
-use Rattle.model.specs.SoundTest.{headTest, liveTest, deadTest, slotTest, framesApart, sameName, pairTest, apartTest, spacesTest, enrolledTest, absentTest, guestTest, guestsTest, permitTest, permitsTest, groundTest, standingTest, untouchedTest, entryTest, entriesTest, sound}
-use Rattle.model.specs.Step.{Machine, Ready, Issue, Outcome, decision, outcome, step, run, clearFrame, clearFrames, scratchAfter, bufferAfter}
-use Rattle.model.specs.Tokens.{malformed, assigned, tokenUsed}
-use Rattle.model.specs.Translation.{throughStanding, translate}
+use Rattle.model.specs.SoundTest.{sound}
+use Rattle.model.specs.Step.{Machine, Ready, Issue, Outcome, step, run, clearFrame, clearFrames, scratchAfter, bufferAfter}
 use Rattle.model.proofs.Clearing.{clear-on}
-use Rattle.model.proofs.Sound.{length-scratchAfter}
 use Rattle.model.proofs.SoundTest.{sound-decides}
 use Rattle.isolation.specs.Instance.{start, holding, zeros, altered, look, change, others, calls, first, second, Result, results, listed}
 use Rattle.isolation.specs.Reaches.{Reaches}
 use Rattle.isolation.specs.TwoRuns.{OutsideSpace, StoresVaried, AllSameOutside}
+use Rattle.isolation.proofs.InstanceRun.{decisions, runWith, step-with, run-with}
 use Rattle.isolation.proofs.Isolation.{isolation}
 
--- whoever unfolds this unfolds all that a decision computes with
-abbrev decisions : Type 0
-unfolding start decide judge ready goodCaller enrols perform storing fetching target access accessAt writes load remove add entitled isolate destroy owning create making made checkAll arguments check number value allows releasedFrom released revokedFrom revoked vacated unpermitted loses revokedAll withdrawn frameOf placeOf framesOf frameFree framesInRange blanks nameRest nameForm nameBytes goodName enrolled slotOf slotNamed primarySlot primaries dataSpaces freeSlot runFree runIn isUnused freeEntry headTest liveTest deadTest slotTest framesApart sameName pairTest apartTest spacesTest enrolledTest absentTest guestTest guestsTest permitTest permitsTest groundTest standingTest untouchedTest entryTest entriesTest sound malformed assigned tokenUsed throughStanding translate choose both either implies allFrom every lowestFrom lowest count mapFrom mapPlaces placesFrom
-decisions = Unit {0}
-
 pub sound-start : sound start ≡ true
-unfolding decisions
+unfolding start decisions
 sound-start = refl
-
--- A list of calls, with the length of scratch taken for known: then all decisions compute.
-runWith : (room : ℕ) → Machine → List Issue → List Outcome
-runWith n m [] = []
-runWith n m (i ∷ is) = let o : Outcome = outcome m i (decide (m .tables) n (i .call) (length (i .buffer))) in o ∷ runWith n (o .machine) is
-
-step-with : (n : ℕ) (m : Machine) (i : Issue) → length (m .scratch) ≡ n → step m i ≡ outcome m i (decide (m .tables) n (i .call) (length (i .buffer)))
-unfolding step
-step-with n m i e = ap (λ k. outcome m i (decide (m .tables) k (i .call) (length (i .buffer)))) e
-
-run-with : (n : ℕ) (is : List Issue) (m : Machine) → length (m .scratch) ≡ n → run m is ≡ runWith n m is
-unfolding run runWith step
-run-with n [] m e = refl
-run-with n (i ∷ is) m e =
-    ap₂ _∷_ (step-with n m i e)
-    (run-with n is (step m i .machine) (length-scratchAfter _ (decision m i .effect) (m .scratch) (i .buffer) ∙ e)
-    ∙ ap (λ (o : Outcome). runWith n (o .machine) is) (step-with n m i e))
 
 -- The two bytes at the start of frame 2; scratch after the store, and what it and the clearing leave there.
 abbrev pair : List ℕ → List ℕ
@@ -92,7 +58,7 @@ unfolding zeros
 long = length-replicate {A = ℕ} 16384 0
 
 computed-first : Computed zeros 1 2
-unfolding decisions results runWith scratchAfter bufferAfter put get clearFrames
+unfolding start decisions results runWith scratchAfter bufferAfter put get clearFrames
 computed-first = refl
 
 held-first : pair zeros ≡ 0 ∷ 0 ∷ []
@@ -108,7 +74,7 @@ unfolding altered
 long-altered = length-set zeros 8193 7 ∙ long
 
 computed-second : Computed altered 3 4
-unfolding decisions results runWith scratchAfter bufferAfter put get clearFrames
+unfolding start decisions results runWith scratchAfter bufferAfter put get clearFrames
 computed-second = refl
 
 held-second : pair altered ≡ 0 ∷ 7 ∷ []
@@ -131,7 +97,7 @@ unfolding start
 live-shared = omega arith
 
 pub outside : OutsideSpace start 2 zeros altered
-unfolding start altered placeOf frameOf
+unfolding start altered decisions
 outside = record {
   room = sym (length-set zeros 8193 7);
   bytes = λ p away. sym (getD-set-other zeros 8193 p 7 0 (λ e. away 1 (omega arith) (sym e)));
@@ -139,15 +105,15 @@ outside = record {
 
 -- the fetch leaves all as it was, and the store through register 1 reaches space 3
 look-leaves : step (holding zeros) look .machine ≡ holding zeros
-unfolding decisions scratchAfter
+unfolding start decisions scratchAfter
 look-leaves = ap (λ (o : Outcome). o .machine) (step-with 16384 (holding zeros) look long)
 
 change-done : number (step (holding zeros) (change (1 ∷ 2 ∷ [])) .answer) ≡ 0
-unfolding decisions
+unfolding start decisions
 change-done = ap (λ (o : Outcome). number (o .answer)) (step-with 16384 (holding zeros) (change (1 ∷ 2 ∷ [])) long)
 
 pub change-reaches : Reaches (step (holding zeros) look .machine) (change (1 ∷ 2 ∷ [])) 3
-unfolding start tokenUsed choose both
+unfolding start decisions
 change-reaches = rw look-leaves (record {
   done = change-done;
   register = 1;

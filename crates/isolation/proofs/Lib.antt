@@ -2,6 +2,7 @@ pub mod Reaching
 pub mod Moved
 pub mod TwoRuns
 pub mod Isolation
+pub mod InstanceRun
 pub mod Instance
 pub mod Record
 pub mod RecordSet
@@ -13,3 +14,4 @@ pub mod RecordTells
 pub mod Rising
 pub mod Grounded
 pub mod Records
+pub mod InstanceRecord

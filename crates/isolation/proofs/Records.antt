@@ -1,7 +1,6 @@
 -- Instances of the second half: records with a ground for the next fetch or store, and records with none. Assumes nothing.
 use Prim.Native.Nat.{ℕ, _+_, _*_, _%_, _≤_}
-use mathlib.Core.Bool.{not}
-use mathlib.Core.List.{List, [], _∷_, _++_}
+use mathlib.Core.List.{List, [], _∷_, _++_, append-assoc}
 use mathlib.Core.Logic.{_≢_, _⊎_, inl, inr, ⊎-elim}
 use mathlib.Core.Path.{_≡_, refl, sym, ap, _∙_}
 use native.Mathlib.Decide.{ℕ-discrete}
@@ -9,55 +8,25 @@ use native.Mathlib.Omega.{arith}
 use lib.ListN.{take}
 use Rattle.lists.specs.Choice.{choose, both}
 use Rattle.model.specs.declared.Operation.{Operation}
-use Rattle.model.specs.declared.Operation.the-variants.{Enrol, Create, Permit, Isolate, Add, Remove, Load, Mode, Fetch, Store, Reset}
+use Rattle.model.specs.declared.Operation.the-variants.{Isolate, Add, Remove, Load, Fetch, Store, Reset}
 use Rattle.model.specs.declared.Right.{Right}
 use Rattle.model.specs.declared.Right.the-variants.{Read, Write}
-use Rattle.model.specs.Cases.{nameA}
 use Rattle.model.specs.Step.{Issue}
 use Rattle.isolation.specs.Ground.{Never, Did, Owns, AtLeast, GivesUp, Withdraws, PermittedBefore, ByEntry, Ground}
 use Rattle.isolation.specs.History.{Event, Deed, nothing, enrolled, created, destroyed, permitted, isolated, added, removed, loaded, switched, reset, deedDone, deedOf, deed}
-use Rattle.isolation.specs.Instance.{issue}
+use Rattle.isolation.specs.Instance.{issue, done, founding, permitting, session, writing, owning, fetch, store}
 use Rattle.isolation.specs.Reaches.{Through}
 use Rattle.isolation.specs.Recall.{modeBy, modeIn, loadBy, loadIn, usedIn}
 use Rattle.isolation.specs.TwoRuns.{IsStore}
-use Rattle.isolation.proofs.RecordTells.{did-more}
+use Rattle.isolation.proofs.RecordTells.{did-now, did-more}
 
--- The records, latest first.
-abbrev event : (guest : ℕ) → Operation → (number value : ℕ) → Event
-event g o n v = record { call = record { caller = record { guest = g }; operation = o }; number = n; value = v }
+-- whoever unfolds this unfolds all by which a record tells its deeds and the token used
+telling : Type 0
+unfolding deedOf deedDone usedIn modeIn modeBy loadIn loadBy choose both
+telling = Unit {0}
 
-abbrev done : (guest : ℕ) → Operation → (value : ℕ) → Event
-done g o v = event g o 0 v
-
--- ENROL 1, ENROL 2, CREATE 1 -> 3
-abbrev founding : List Event
-founding = done 1 (Create nameA 1) 3 ∷ done 2 (Enrol 1 1 0 2 1) 2 ∷ done 1 (Enrol 2 2 1 4 1) 1 ∷ []
-
--- PERMIT 1 3 2 r
-abbrev permitting : Right → List Event
-permitting r = done 1 (Permit 3 2 r) 0 ∷ founding
-
--- the paper's session, lines 2 to 9: PERMIT 1 3 2 R, ADD 2 3 R -> 2, ADD 2 3 W refused, MODE 2 1, LOAD 2 5 2
-abbrev session : List Event
-session = done 2 (Load 5 2) 0 ∷ done 2 (Mode 1) 0 ∷ event 2 (Add 3 Write) 12 0 ∷ done 2 (Add 3 Read) 2 ∷ permitting Read
-
--- PERMIT 1 3 2 W, ADD 2 3 W -> 2, MODE 2 1, LOAD 2 5 2
-abbrev writing : List Event
-writing = done 2 (Load 5 2) 0 ∷ done 2 (Mode 1) 0 ∷ done 2 (Add 3 Write) 2 ∷ permitting Write
-
--- with no PERMIT, ADD 1 3 W -> 2, MODE 1 1, LOAD 1 5 2
-abbrev owning : List Event
-owning = done 1 (Load 5 2) 0 ∷ done 1 (Mode 1) 0 ∷ done 1 (Add 3 Write) 2 ∷ founding
-
--- The next call.
-abbrev fetch : (guest : ℕ) → Issue
-fetch g = issue g (Fetch 5 0) (0 ∷ [])
-
-abbrev store : (guest : ℕ) → Issue
-store g = issue g (Store 5 0) (0 ∷ [])
-
--- A number for each deed: its kind, guest, space, token and right as digits. Deeds of other numbers are apart, and arithmetic
--- tells them so.
+-- A number for each deed: its kind, guest, right, space, and token or other guest, as digits. Deeds with different numbers
+-- differ, and so arithmetic tells that a deed is none of a record's.
 abbrev digit : Right → ℕ
 digit Read = 0
 digit Write = 1
@@ -69,31 +38,11 @@ code (switched c m) = 0
 code (enrolled g x) = 1 + 10 * g + 1000 * x
 code (created g x) = 2 + 10 * g + 1000 * x
 code (destroyed g x) = 3 + 10 * g + 1000 * x
-code (permitted g x h r) = 4
+code (permitted g x h r) = 4 + 10 * g + 100 * digit r + 1000 * x + 100000 * h
 code (isolated g x) = 5 + 10 * g + 1000 * x
-code (added g x r t) = 6 + 10 * g + 1000 * x + 100000 * t + 100 * digit r
+code (added g x r t) = 6 + 10 * g + 100 * digit r + 1000 * x + 100000 * t
 code (removed g t) = 7 + 10 * g + 100000 * t
 code (reset g) = 8 + 10 * g
-
--- Going through a record. What none of its calls did is nowhere in it.
-never-did : (P : Deed → Type 0) (h : List Event) (d : Deed) → Never P h → Did h d → P d → ⊥
-never-did P h d never p w = go (p .later) (rw (p .split) at never) (rw (p .is) w)
-  where
-    go : (l : List Event) → Never P (l ++ (p .event ∷ p .earlier)) → P (deed (p .event)) → ⊥
-    go [] n v = n .0 v
-    go (x ∷ l) n v = go l (n .1) v
-
--- The latest call came since each deed that it did not do itself.
-since-latest : (P : Deed → Type 0) (e : Event) (h : List Event) (d : Deed) (p : Did (e ∷ h) d) → (deed e ≡ d → ⊥) → Never P (p .later) → P (deed e) → ⊥
-since-latest P e h d p ne never w = go (p .later) (p .split) never
-  where
-    go : (l : List Event) → e ∷ h ≡ l ++ (p .event ∷ p .earlier) → Never P l → ⊥
-    go [] s n = let q : e ≡ p .event = cc in ne (ap (λ (x : Event). deed x) q ∙ p .is)
-    go (x ∷ l) s n = let q : e ≡ x = cc in n .0 (rw q at w)
-
-never-map : (P Q : Deed → Type 0) → ((d : Deed) → P d → Q d) → (h : List Event) → Never Q h → Never P h
-never-map P Q f [] n = tt
-never-map P Q f (e ∷ h) n = ((λ p. n .0 (f (deed e) p)), never-map P Q f h (n .1))
 
 -- a deed of the latest call, and one that stays whatever comes later
 abbrev now : (e : Event) (h : List Event) → Did (e ∷ h) (deed e)
@@ -102,6 +51,10 @@ now e h = record { later = []; event = e; earlier = h; split = refl; is = refl }
 did-in : (l h : List Event) (d : Deed) → Did h d → Did (l ++ h) d
 did-in [] h d p = p
 did-in (e ∷ l) h d p = did-more e (l ++ h) d (did-in l h d p)
+
+never-map : (P Q : Deed → Type 0) → ((d : Deed) → P d → Q d) → (h : List Event) → Never Q h → Never P h
+never-map P Q f [] n = tt
+never-map P Q f (e ∷ h) n = ((λ p. n .0 (f (deed e) p)), never-map P Q f h (n .1))
 
 -- With a ground. Loading, switching and what was refused give up and withdraw nothing.
 abbrev Quiet : List Event → Type 0
@@ -112,14 +65,14 @@ gives-up-code g t d =
     ⊎-elim (λ (p : (x : ℕ) × (r : Right) × (d ≡ added g x r t)). omega (arith, ap code (p .2)))
     (⊎-elim (λ q. omega (arith, ap code q)) (λ q. omega (arith, ap code q)))
 
-withdraws-code : (o x : ℕ) (d : Deed) → Withdraws o x d → 1 ≤ code d
+withdraws-code : (o x : ℕ) (d : Deed) → Withdraws o x d → (1 ≤ code d) × (code d % 10 ≢ 6)
 withdraws-code o x d = ⊎-elim (λ (p : (g : ℕ) × (d ≡ isolated g x)). omega (arith, ap code (p .1))) (λ q. omega (arith, ap code q))
 
 -- an ADD with quiet calls since
 entry : (l h : List Event) (i : Issue) (r : Right) (o : ℕ) → Quiet l → Did h (created o 3) → (IsStore (i .call .operation) → r ≡ Write)
     → (o ≡ i .call .caller .guest) ⊎ PermittedBefore [] h o (i .call .caller .guest) 3 r
     → ByEntry (l ++ (done (i .call .caller .guest) (Add 3 r) 2 ∷ h)) (i .call .operation) (i .call .caller .guest) 2 3
-unfolding deedOf deedDone
+unfolding telling
 entry l h i r o quiet made writes ground = record {
   right = r;
   did = record { later = l; event = done (i .call .caller .guest) (Add 3 r) 2; earlier = h; split = refl; is = refl };
@@ -128,20 +81,20 @@ entry l h i r o quiet made writes ground = record {
   owner = o;
   owns = inr (did-in l _ _ (did-more _ h _ made));
   ground = ⊎-elim (λ e. inl e) (λ (p : PermittedBefore [] h o (i .call .caller .guest) 3 r).
-      inr (record { right = p .right; did = p .did; enough = p .enough; since = p .since; since-add = never-map _ _ (withdraws-code o 3) l quiet })) ground;
+      inr (record { right = p .right; did = p .did; enough = p .enough; since = p .since; since-add = never-map _ _ (λ d w. withdraws-code o 3 d w .0) l quiet })) ground;
 }
 
 made : Did founding (created 1 3)
-unfolding deedOf deedDone
+unfolding telling
 made = now _ _
 
 permit : (r : Right) → AtLeast r r → PermittedBefore [] (permitting r) 1 2 3 r
-unfolding deedOf deedDone
+unfolding telling
 permit r enough = record { right = r; did = now _ _; enough = enough; since = tt; since-add = tt }
 
 -- (i) a PERMIT and an ADD
 pub by-permit : Ground session (fetch 2) 3
-unfolding deedOf deedDone usedIn modeIn modeBy loadIn loadBy choose both
+unfolding telling
 by-permit = record {
   register = 5;
   through = refl;
@@ -150,7 +103,7 @@ by-permit = record {
 
 -- (ii) the owner's own ADD
 pub by-owner : Ground owning (store 1) 3
-unfolding deedOf deedDone usedIn modeIn modeBy loadIn loadBy choose both
+unfolding telling
 by-owner = record {
   register = 5;
   through = refl;
@@ -159,7 +112,7 @@ by-owner = record {
 
 -- (iii) token 0: guest 2 has loaded a token, and is in primary mode
 pub by-enrol : Ground (done 2 (Load 5 2) 0 ∷ founding) (fetch 2) 2
-unfolding deedOf deedDone usedIn modeIn modeBy loadIn loadBy choose both
+unfolding telling
 by-enrol = record {
   register = 5;
   through = refl;
@@ -168,75 +121,137 @@ by-enrol = record {
 
 -- (iv) a store by W
 pub by-write : Ground writing (store 2) 3
-unfolding deedOf deedDone usedIn modeIn modeBy loadIn loadBy choose both
+unfolding telling
 by-write = record {
   register = 5;
   through = refl;
   way = inr ((λ e. omega arith), entry (take 2 writing) (permitting Write) (store 2) Write 1 (omega arith) (did-more _ _ _ made) (λ w. refl) (inr (permit Write tt)));
 }
 
--- With none. What is reached through token 2 is reached by its entry.
-entry-only : (h : List Event) (i : Issue) (x : ℕ) → ((r : ℕ) → Through (i .call .operation) r → 5 ≡ r) → usedIn h (i .call .caller) 5 ≡ 2
-    → Ground h i x → ByEntry h (i .call .operation) (i .call .caller .guest) 2 x
-entry-only h i x five two g = go (g .way)
+-- With none. First, how to go through a record: what none of its calls did is nowhere in it.
+never-did : (d : Deed) (h : List Event) → Never (λ x. code x ≡ code d) h → Did h d → ⊥
+never-did d h never p = go (p .later) (rw (p .split) at never)
   where
-    used : usedIn h (i .call .caller) (g .register) ≡ 2
-    used = rw (← (five (g .register) (g .through))) two
+    go : (l : List Event) → Never (λ x. code x ≡ code d) (l ++ (p .event ∷ p .earlier)) → ⊥
+    go [] n = n .0 (ap code (p .is))
+    go (x ∷ l) n = go l (n .1)
 
-    go : ((usedIn h (i .call .caller) (g .register) ≡ 0) × Did h (enrolled (i .call .caller .guest) x))
-        ⊎ ((usedIn h (i .call .caller) (g .register) ≡ 0 → ⊥) × ByEntry h (i .call .operation) (i .call .caller .guest) (usedIn h (i .call .caller) (g .register)) x)
-        → ByEntry h (i .call .operation) (i .call .caller .guest) 2 x
-    go (inl p) = absurd (omega (arith, used, p .0))
-    go (inr p) = rw used at (p .1)
+-- a deed with no deed since of which P holds; where P holds of e's, it was done by e or since
+abbrev Since : (Deed → Type 0) → List Event → Deed → Type 0
+Since P h d = (p : Did h d) × Never P (p .later)
 
--- The session, and then one call more that gives no identification and adds nothing.
-module _ (e : Event) (gives : 3 ≤ code (deed e) % 10) (adds : code (deed e) % 10 ≢ 6) where
-  owner-one : (o : ℕ) → Owns (e ∷ session) o 3 → o ≡ 1
-  unfolding deedOf deedDone
-  owner-one o w = go (ℕ-discrete o 1)
+since-last : (P : Deed → Type 0) (l : List Event) (e : Event) (h : List Event) (d : Deed) → P (deed e) → Since P (l ++ (e ∷ h)) d → Did (l ++ (e ∷ [])) d
+since-last P l e h d w p = go l (p .0 .later) (p .0 .split) (p .1)
+  where
+    is : (x : Event) → x ≡ p .0 .event → deed x ≡ d
+    is x q = ap (λ (y : Event). deed y) q ∙ p .0 .is
+
+    go : (l k : List Event) → l ++ (e ∷ h) ≡ k ++ (p .0 .event ∷ p .0 .earlier) → Never P k → Did (l ++ (e ∷ [])) d
+    go [] [] s n = did-now e [] d (is e (cc))
+    go [] (x ∷ k) s n = let q : e ≡ x = cc in absurd (n .0 (rw q at w))
+    go (y ∷ l) [] s n = did-now y (l ++ (e ∷ [])) d (is y (cc))
+    go (y ∷ l) (x ∷ k) s n = did-more y (l ++ (e ∷ [])) d (go l k (cc) (n .1))
+
+-- a record in which space 3 is nobody's but guest 1's
+abbrev Sole : List Event → Type 0
+Sole h = (o : ℕ) → o ≢ 1 → Never (λ d. code d ≡ code (enrolled o 3)) h × Never (λ d. code d ≡ code (created o 3)) h
+
+sole-owner : (h : List Event) → Sole h → (o : ℕ) → Owns h o 3 → o ≡ 1
+sole-owner h sole o w = go (ℕ-discrete o 1)
+  where
+    go : Dec (o ≡ 1) → o ≡ 1
+    go (yes q) = q
+    go (no ne) = absurd (⊎-elim (never-did (enrolled o 3) h (sole o ne .0)) (never-did (created o 3) h (sole o ne .1)) w)
+
+-- A ground of guest 2 for space 3 through token 2 in register 5: its entry, and the PERMIT for it with no ISOLATE and no RESET
+-- by guest 1 since.
+module _ (h : List Event) (k : Operation) (five : (r : ℕ) → Through k r → 5 ≡ r) (two : usedIn h (record { guest = 2 }) 5 ≡ 2) (g : Ground h (issue 2 k (0 ∷ [])) 3) where
+  by : ByEntry h k 2 2 3
+  by = ⊎-elim (λ p. absurd (omega (arith, used, p .0))) (λ p. rw used at (p .1)) (g .way)
     where
-      go : Dec (o ≡ 1) → o ≡ 1
-      go (yes q) = q
-      go (no ne) =
-          absurd (⊎-elim (λ p. never-did (λ d. code d ≡ code (enrolled o 3)) (e ∷ session) _ (omega arith) p refl)
-          (λ p. never-did (λ d. code d ≡ code (created o 3)) (e ∷ session) _ (omega arith) p refl) w)
+      used : usedIn h (record { guest = 2 }) (g .register) ≡ 2
+      used = rw (← (five (g .register) (g .through))) two
 
-  -- one that withdraws the space leaves guest 2 no ground
-  withdrawn : usedIn (e ∷ session) (record { guest = 2 }) 5 ≡ 2 → Withdraws 1 3 (deed e) → Ground (e ∷ session) (fetch 2) 3 → ⊥
-  withdrawn two w g = ⊎-elim own permitted (b .ground)
+  permission : Sole h → (r : Right) × AtLeast r (by .right) × Since (Withdraws 1 3) h (permitted 1 3 2 r)
+  permission sole = ⊎-elim (λ q. absurd (omega (arith, one))) (λ p. joined (rw one at p)) (by .ground)
     where
-      b : ByEntry (e ∷ session) (Fetch 5 0) 2 2 3
-      b = entry-only (e ∷ session) (fetch 2) 3 (λ r q. q) two g
+      one : by .owner ≡ 1
+      one = sole-owner h sole (by .owner) (by .owns)
 
-      one : b .owner ≡ 1
-      one = owner-one (b .owner) (b .owns)
+      never-join : (l : List Event) (e : Event) (m : List Event) → (Withdraws 1 3 (deed e) → ⊥) → Never (Withdraws 1 3) l → Never (Withdraws 1 3) m → Never (Withdraws 1 3) (l ++ (e ∷ m))
+      never-join [] e m f n o = (f, o)
+      never-join (y ∷ l) e m f n o = (n .0, never-join l e m f (n .1) o)
 
-      own : b .owner ≡ 2 → ⊥
-      own q = omega (arith, one)
+      joined : PermittedBefore (by .did .later) (by .did .earlier) 1 2 3 (by .right) → (r : Right) × AtLeast r (by .right) × Since (Withdraws 1 3) h (permitted 1 3 2 r)
+      joined p = (
+        p .right,
+        p .enough,
+        (
+          record {
+            later = by .did .later ++ (by .did .event ∷ p .did .later);
+            event = p .did .event;
+            earlier = p .did .earlier;
+            split = by .did .split ∙ ap (λ (m : List Event). by .did .later ++ (by .did .event ∷ m)) (p .did .split) ∙ sym (append-assoc (by .did .later) _ _);
+            is = p .did .is;
+          },
+          never-join (by .did .later) (by .did .event) (p .did .later) (λ w. omega (arith, ap code (by .did .is), withdraws-code 1 3 _ w)) (p .since-add) (p .since),
+        ),
+      )
 
-      permitted : PermittedBefore (b .did .later) (b .did .earlier) (b .owner) 2 3 (b .right) → ⊥
-      permitted p = since-latest (Withdraws (b .owner) 3) e session _ (b .did) (λ q. omega (arith, ap code q)) (p .since-add) (rw one w)
+-- no ground where e withdraws the space and no PERMIT came since
+withdrawn : (l : List Event) (e : Event) (h : List Event) → usedIn (l ++ (e ∷ h)) (record { guest = 2 }) 5 ≡ 2 → Sole (l ++ (e ∷ h)) → Withdraws 1 3 (deed e)
+    → ((r : Right) → Never (λ d. code d ≡ code (permitted 1 3 2 r)) (l ++ (e ∷ []))) → Ground (l ++ (e ∷ h)) (fetch 2) 3 → ⊥
+withdrawn l e h two sole w none g =
+    let p = permission (l ++ (e ∷ h)) (Fetch 5 0) (λ r q. q) two g sole in
+    never-did (permitted 1 3 2 (p .0)) (l ++ (e ∷ [])) (none (p .0)) (since-last (Withdraws 1 3) l e h (permitted 1 3 2 (p .0)) w (p .2))
 
--- (v) an ISOLATE between PERMIT and use
+-- (v) an ISOLATE between PERMIT and use: after the ADD, and before it
 pub none-isolated : Ground (done 1 (Isolate 3) 0 ∷ session) (fetch 2) 3 → ⊥
-unfolding deedOf deedDone usedIn modeIn modeBy loadIn loadBy choose both
-none-isolated = withdrawn (done 1 (Isolate 3) 0) (omega arith) (omega arith) refl (inl (1, refl))
+unfolding telling
+none-isolated = withdrawn [] (done 1 (Isolate 3) 0) session refl (λ o ne. omega arith) (inl (1, refl)) (λ r. omega arith)
+
+pub none-isolated-before : Ground (take 4 session ++ (done 1 (Isolate 3) 0 ∷ permitting Read)) (fetch 2) 3 → ⊥
+unfolding telling
+none-isolated-before = withdrawn (take 4 session) (done 1 (Isolate 3) 0) (permitting Read) refl (λ o ne. omega arith) (inl (1, refl)) (λ r. omega arith)
 
 -- (vi) a RESET by the owner since
 pub none-reset : Ground (done 1 Reset 0 ∷ session) (fetch 2) 3 → ⊥
-unfolding deedOf deedDone usedIn modeIn modeBy loadIn loadBy choose both
-none-reset = withdrawn (done 1 Reset 0) (omega arith) (omega arith) refl (inr refl)
+unfolding telling
+none-reset = withdrawn [] (done 1 Reset 0) session refl (λ o ne. omega arith) (inr refl) (λ r. omega arith)
 
 -- (vii) a read ADD for a store
 pub none-reading : Ground session (store 2) 3 → ⊥
-unfolding deedOf deedDone usedIn modeIn modeBy loadIn loadBy choose both
+unfolding telling
 none-reading g =
-    let b = entry-only session (store 2) 3 (λ r q. q) refl g in
-    never-did (λ d. code d ≡ code (added 2 3 Write 2)) session _ (omega arith) (rw (b .write tt) at (b .did)) refl
+    let b = by session (Store 5 0) (λ r q. q) refl g in
+    never-did (added 2 3 Write 2) session (omega arith) (rw (b .write tt) at (b .did))
 
 -- (viii) a REMOVE of the token since
 pub none-removed : Ground (done 2 (Remove 2) 0 ∷ session) (fetch 2) 3 → ⊥
-unfolding deedOf deedDone usedIn modeIn modeBy loadIn loadBy choose both
+unfolding telling
 none-removed g =
-    let b = entry-only (done 2 (Remove 2) 0 ∷ session) (fetch 2) 3 (λ r q. q) refl g in
-    since-latest (GivesUp 2 2) (done 2 (Remove 2) 0) session _ (b .did) (λ q. omega (arith, ap code q)) (b .last) (inr (inl refl))
+    let e = done 2 (Remove 2) 0 in
+    let b = by (e ∷ session) (Fetch 5 0) (λ r q. q) refl g in
+    never-did (added 2 3 (b .right) 2) (e ∷ []) (omega arith) (since-last (GivesUp 2 2) [] e session (added 2 3 (b .right) 2) (inr (inl refl)) (b .did, b .last))
+
+-- (ix) an ADD by another guest than the owner with no PERMIT
+pub none-permitted : Ground (take 4 session ++ founding) (fetch 2) 3 → ⊥
+unfolding telling
+none-permitted g =
+    let h = take 4 session ++ founding in
+    let p = permission h (Fetch 5 0) (λ r q. q) refl g (λ o ne. omega arith) in
+    never-did (permitted 1 3 2 (p .0)) h (omega arith) (p .2 .0)
+
+-- (x) a write ADD and a store after a PERMIT to read
+pub none-enough : Ground (take 3 writing ++ permitting Read) (store 2) 3 → ⊥
+unfolding telling
+none-enough g =
+    let h = take 3 writing ++ permitting Read in
+    let b = by h (Store 5 0) (λ r q. q) refl g in
+    let p = permission h (Store 5 0) (λ r q. q) refl g (λ o ne. omega arith) in
+    never-did (permitted 1 3 2 Write) h (omega arith) (rw (at-least (p .0) (b .right) (p .1) (b .write tt)) at (p .2 .0))
+  where
+    at-least : (r q : Right) → AtLeast r q → q ≡ Write → r ≡ Write
+    at-least Read Read a e = e
+    at-least Read Write a e = absurd a
+    at-least Write q a e = refl

@@ -1,25 +1,32 @@
--- One instance of the first half: a sound state with a shared space, two scratch areas that differ in that space, and a list
--- of calls in two versions, with all that each run returns (proofs/Instance).
+-- Demand 3 on concrete things. For the first half a sound state with a shared space, two scratch areas that differ in that
+-- space, and a list of calls in two versions, with all that each run returns (proofs/Instance). For the second half records of
+-- calls, and what they are records of (proofs/Records, proofs/InstanceRecord).
 use Prim.Native.Nat.{ℕ}
 use mathlib.Core.Bool.{Bool, true, false}
-use mathlib.Core.List.{List, [], _∷_}
+use mathlib.Core.List.{List, [], _∷_, _++_}
 use lib.ListN.{set, replicate}
 use Rattle.model.specs.declared.Cpu.{Cpu}
 use Rattle.model.specs.declared.Grant.the-variants.{Reading}
 use Rattle.model.specs.declared.Guest.{Guest}
 use Rattle.model.specs.declared.Operation.{Operation}
-use Rattle.model.specs.declared.Operation.the-variants.{Create, Destroy, Isolate, Add, Remove, Load, Fetch, Store}
+use Rattle.model.specs.declared.Operation.the-variants.{Enrol, Create, Destroy, Permit, Isolate, Add, Remove, Load, Mode, Fetch, Store}
+use Rattle.model.specs.declared.Right.{Right}
 use Rattle.model.specs.declared.Right.the-variants.{Read, Write}
 use Rattle.model.specs.declared.Space.{Space}
 use Rattle.model.specs.declared.Standing.the-variants.{Valid}
 use Rattle.model.specs.declared.State.{State}
 use Rattle.model.specs.Answers.{number, value}
-use Rattle.model.specs.Cases.{nameA}
 use Rattle.model.specs.Fresh.{emptyTables}
 use Rattle.model.specs.Names.{baseName}
 use Rattle.model.specs.Step.{Machine, Issue, Outcome}
 use Rattle.model.specs.Tables.{noSpace, spaceAt, permitPlace, entryPlace, withSpaces, withGuests, withCpus, withPermits, withEntries}
+use Rattle.isolation.specs.History.{Event}
 
+-- the bytes of TEMP and four blanks
+abbrev pub temp : ℕ
+temp = 0x54454D5020202020
+
+-- First half.
 -- The tables, over four frames. Both guests are enrolled and in access-register mode with token 2 in register 1; guest 1 shares.
 abbrev pub settings : (share : Bool) → Guest
 settings b = record { enrolled = true; allowance = 2; share = b; list = 4; asf = true }
@@ -32,10 +39,10 @@ space i g n f = record { id = i; owner = g; name = n; first = f; pages = 1 }
 
 -- guest 1's data space 3 in frame 2, and the space 4 that guest 2 will make there
 abbrev pub shared : Space
-shared = space 3 1 nameA 2
+shared = space 3 1 temp 2
 
 abbrev pub own : Space
-own = space 4 2 nameA 2
+own = space 4 2 temp 2
 
 -- the primaries 1 and 2 have the frames 0 and 1; guest 2 is permitted to read space 3; entry 2 of guest 1 is valid for it with
 -- write, entry 2 of guest 2 with read
@@ -83,7 +90,7 @@ others =
     ∷ look
     ∷ issue 1 (Destroy 3) []
     ∷ issue 2 (Remove 2) []
-    ∷ issue 2 (Create nameA 1) []
+    ∷ issue 2 (Create temp 1) []
     ∷ issue 2 (Add 4 Read) []
     ∷ issue 2 (Load 1 65538) []
     ∷ look
@@ -128,3 +135,60 @@ listed x b y z =
     ∷ result 0 0 [] own
     ∷ result 0 0 z own
     ∷ []
+
+-- Second half.
+-- The records, latest first.
+abbrev pub event : (guest : ℕ) → Operation → (number value : ℕ) → Event
+event g o n v = record { call = record { caller = record { guest = g }; operation = o }; number = n; value = v }
+
+abbrev pub done : (guest : ℕ) → Operation → (value : ℕ) → Event
+done g o v = event g o 0 v
+
+-- ENROL 1, ENROL 2, CREATE 1 TEMP -> 3
+abbrev pub founding : List Event
+founding = done 1 (Create temp 1) 3 ∷ done 2 (Enrol 1 1 0 2 1) 2 ∷ done 1 (Enrol 2 2 1 4 1) 1 ∷ []
+
+-- PERMIT 1 3 2 r
+abbrev pub permitting : Right → List Event
+permitting r = done 1 (Permit 3 2 r) 0 ∷ founding
+
+-- the paper's session, lines 2 to 9: PERMIT 1 3 2 R, ADD 2 3 R -> 2, ADD 2 3 W refused, MODE 2 1, LOAD 2 5 2
+abbrev pub session : List Event
+session = done 2 (Load 5 2) 0 ∷ done 2 (Mode 1) 0 ∷ event 2 (Add 3 Write) 12 0 ∷ done 2 (Add 3 Read) 2 ∷ permitting Read
+
+-- PERMIT 1 3 2 W, ADD 2 3 W -> 2, MODE 2 1, LOAD 2 5 2
+abbrev pub writing : List Event
+writing = done 2 (Load 5 2) 0 ∷ done 2 (Mode 1) 0 ∷ done 2 (Add 3 Write) 2 ∷ permitting Write
+
+-- with no PERMIT, ADD 1 3 W -> 2, MODE 1 1, LOAD 1 5 2
+abbrev pub owning : List Event
+owning = done 1 (Load 5 2) 0 ∷ done 1 (Mode 1) 0 ∷ done 1 (Add 3 Write) 2 ∷ founding
+
+-- The next call.
+abbrev pub fetch : (guest : ℕ) → Issue
+fetch g = issue g (Fetch 5 0) (0 ∷ [])
+
+abbrev pub store : (guest : ℕ) → Issue
+store g = issue g (Store 5 0) (0 ∷ [])
+
+-- Lines 2 to 9 as calls from a fresh state of eight frames, and line 16 after them.
+unfoldable pub blank : List ℕ
+blank = replicate 32768 0
+
+abbrev pub fresh : Machine
+fresh = record { tables = emptyTables 8 1; scratch = blank }
+
+abbrev pub lines : List Issue
+lines =
+    issue 1 (Enrol 2 2 1 4 1) []
+    ∷ issue 2 (Enrol 1 1 0 2 1) []
+    ∷ issue 1 (Create temp 1) []
+    ∷ issue 1 (Permit 3 2 Read) []
+    ∷ issue 2 (Add 3 Read) []
+    ∷ issue 2 (Add 3 Write) []
+    ∷ issue 2 (Mode 1) []
+    ∷ issue 2 (Load 5 2) []
+    ∷ []
+
+abbrev pub isolating : List Issue
+isolating = lines ++ (issue 1 (Isolate 3) [] ∷ [])

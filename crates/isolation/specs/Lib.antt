@@ -4,9 +4,10 @@
 pub mod Reaches
 -- First half: two runs of one list that differ in one space
 pub mod TwoRuns
-pub mod Instance
 -- Second half: the ground that earlier calls give for each fetch or store
 pub mod History
 pub mod Recall
 pub mod Ground
 pub mod Agrees
+-- Both halves on concrete things
+pub mod Instance
