@@ -2,6 +2,8 @@ pub mod Reaching
 pub mod Moved
 pub mod TwoRuns
 pub mod Isolation
+pub mod InstanceRun
+pub mod Instance
 pub mod Record
 pub mod RecordSet
 pub mod RecordMade
@@ -11,3 +13,5 @@ pub mod Recall
 pub mod RecordTells
 pub mod Rising
 pub mod Grounded
+pub mod Records
+pub mod InstanceRecord

@@ -9,3 +9,5 @@ pub mod History
 pub mod Recall
 pub mod Ground
 pub mod Agrees
+-- Both halves on concrete things
+pub mod Instance
