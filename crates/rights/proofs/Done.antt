@@ -31,23 +31,23 @@ use Rattle.model.specs.Tables.{noGuest, noPermit, unusedEntry, spaceAt, guestAt
 use Rattle.model.specs.Tokens.{malformed}
 use Rattle.model.proofs.Rules.{go-on, place-yes, place-is}
 use Rattle.entries.specs.Assigned.{assignedTo}
-use Rattle.rights.specs.Entered.{enteredAt, entered}
-use Rattle.rights.proofs.Rules.{answered, share-yes, entitled-yes, free-is, room-yes, assigned-yes}
+use Rattle.rights.specs.Leaves.{otherPlace, enteredAt, entered}
+use Rattle.rights.proofs.Rules.{answered, other-yes, other-is, share-is, entitled-is, free-is, room-yes, assigned-is}
 
 module _ (s : State) (c : Caller) (at : ℕ) (e : at ≡ callerPlace (s .guests) (c .guest)) (l : at < 8) where
-  pub permit-done : (i h to u : ℕ) (r : Right) (p : Grant) → to ≡ callerPlace (s .guests) h → to < 8 → (h ≡ c .guest → ⊥) → u ≡ slotOf (s .spaces) i → u < 32
+  pub permit-done : (i h to u : ℕ) (r : Right) (p : Grant) → to ≡ otherPlace (s .guests) c h → to < 8 → u ≡ slotOf (s .spaces) i → u < 32
       → spaceAt (s .spaces) u .owner ≡ c .guest → not (getD (s .guests) at noGuest .share) ≡ false → p ≡ raised (getD (s .permits) (u * 8 + to) noPermit .grant) r
       → reply (Done 0) (withPermits s (set (s .permits) (u * 8 + to) (record { grant = p }))) ≡ replied (judge s (callOf c (Permit i h r)) 0)
   unfolding judge goodCaller enrols choose arguments checkAll perform permit owning replied
-  permit-done i h to u r p f m other q b o share raise =
+  permit-done i h to u r p f m q b o share raise =
       go-on _ s _ _ _ (place-yes at (s .guests) (c .guest) e l)
-      (go-on _ s _ _ _ (both-intro _ _ (place-yes to (s .guests) h f m) (not-of _ (ne-eqb h (c .guest) other)))
+      (go-on _ s _ _ _ (other-yes (s .guests) c h to f m)
       (rw (← q)
       (go-on _ s _ _ _ (lt-ltb u 32 b)
       (go-on _ s _ _ _ (eq-eqb _ (c .guest) o)
-      (go-on _ s _ _ _ (share-yes (s .guests) at (c .guest) e l share)
+      (go-on _ s _ _ _ (test-yes _ _ (share-is (s .guests) at (c .guest) e l) share)
       (ap (λ x. reply (Done 0) (withPermits s (set (s .permits) (u * 8 + to) (record { grant = x })))) raise
-      ∙ ap (λ k. reply (Done 0) (withPermits s (set (s .permits) (u * 8 + k) (record { grant = raised (getD (s .permits) (u * 8 + k) noPermit .grant) r })))) (place-is to (s .guests) h f m)))))))
+      ∙ ap (λ k. reply (Done 0) (withPermits s (set (s .permits) (u * 8 + k) (record { grant = raised (getD (s .permits) (u * 8 + k) noPermit .grant) r })))) (other-is (s .guests) c h to f m)))))))
 
   pub add-done : (i u k : ℕ) (r : Right) (b : Bool) (x : Reply) → u ≡ slotOf (s .spaces) i → u < 32
       → b ≡ either (eqb (spaceAt (s .spaces) u .owner) (c .guest)) (allows (getD (s .permits) (u * 8 + at) noPermit .grant) r) → not b ≡ false
@@ -62,7 +62,7 @@ module _ (s : State) (c : Caller) (at : ℕ) (e : at ≡ callerPlace (s .guests)
       ∙ go-on _ s _ _ _ (place-yes at (s .guests) (c .guest) e l)
       (rw (← q)
       (go-on _ s _ _ _ (lt-ltb u 32 h)
-      (go-on _ s _ _ _ (entitled-yes s at (c .guest) e l u u r b refl a y)
+      (go-on _ s _ _ _ (test-yes b _ (entitled-is s at (c .guest) e l u u r b refl a) y)
       (go-on _ s _ _ _ (room-yes s at (c .guest) e l k f room) (ap₂ (enteredAt s u r) place same)))))
 
   pub remove-done : (t : ℕ) (m b : Bool) (x : Entry) → (t ≡ 0 → ⊥) → m ≡ malformed t → m ≡ false
@@ -73,7 +73,7 @@ module _ (s : State) (c : Caller) (at : ℕ) (e : at ≡ callerPlace (s .guests)
   remove-done t m b x z f w a y g =
       go-on _ s _ _ _ (place-yes at (s .guests) (c .guest) e l)
       (go-on _ s _ _ _ (not-of _ (either-none _ _ (ne-eqb t 0 z) (sym f ∙ w)))
-      (go-on _ s _ _ _ (assigned-yes s at (c .guest) e l t b a y)
+      (go-on _ s _ _ _ (test-yes b _ (assigned-is s at (c .guest) e l t b a) y)
       (ap (λ v. reply (Done 0) (withEntries s (set (s .entries) (at * 30 + (t % 65536 - 2)) v))) g
       ∙ ap (λ k. reply (Done 0) (withEntries s (set (s .entries) (k * 30 + (t % 65536 - 2)) (released (getD (s .entries) (k * 30 + (t % 65536 - 2)) unusedEntry))))) (place-is at (s .guests) (c .guest) e l))))
 
@@ -87,7 +87,7 @@ module _ (s : State) (c : Caller) (at : ℕ) (e : at ≡ callerPlace (s .guests)
       (go-on _ s _ _ _ (both-intro _ _ (le-leb 1 o (omega arith)) (le-leb o 8 m))
       (go-on _ s _ _ _ (test-yes t (goodName name) f w)
       (rw (← q)
-      (go-on _ s _ _ _ (both-intro _ _ (lt-ltb u 32 h) (entitled-yes s at (c .guest) e l u u Read b refl a y)) refl)))))
+      (go-on _ s _ _ _ (both-intro _ _ (lt-ltb u 32 h) (test-yes b _ (entitled-is s at (c .guest) e l u u Read b refl a) y)) refl)))))
 
 -- QUERY changes no table, whatever it answers
 check-keeps : (s : State) (b : Bool) (a : Answer) (d : Decision) → d .after ≡ s → check s b a d .after ≡ s

@@ -1,15 +1,16 @@
 -- For search in the proofs of the calls: what was answered, and what the leaves say of the model's checks. Assumes nothing.
 use Prim.Native.Nat.{ℕ, _+_, _-_, _*_, _%_, _≤_, _<_}
-use mathlib.Core.Bool.{Bool, true, false, not}
+use mathlib.Core.Bool.{Bool, true, false}
 use mathlib.Core.List.{List}
+use mathlib.Core.Logic.{⊎-elim}
 use mathlib.Core.Path.{_≡_, sym, ap, ap₂, _∙_}
 use native.Mathlib.Omega.{arith}
 use lib.Dec.{eqb, ltb}
 use lib.ListN.{getD}
-use borrow.Author.Tests.{not-true, not-false, le-ltb, lt-ltb, eq-eqb, ne-eqb}
-use Rattle.lists.specs.Choice.{either}
-use Rattle.lists.proofs.Choice.{no! }
-use Rattle.lists.proofs.Rules.{and-true, and-false, and-late, not-no, not-yes}
+use borrow.Author.Tests.{le-leb, lt-leb, le-ltb, lt-ltb, eq-eqb, ne-eqb}
+use Rattle.lists.specs.Choice.{choose, either}
+use Rattle.lists.proofs.Choice.{true-or-false, not-so, yes!, no!, both-left, both-yes, both-not, both-comm}
+use Rattle.lists.proofs.Rules.{not-no, not-yes, test-no, test-yes, and-true, and-false, and-late, zero-leb, pos-leb}
 use Rattle.model.specs.declared.Answer.{Answer}
 use Rattle.model.specs.declared.Answer.the-variants.{BadCaller}
 use Rattle.model.specs.declared.Call.{Call}
@@ -19,7 +20,7 @@ use Rattle.model.specs.declared.Operation.{Operation}
 use Rattle.model.specs.declared.Reply.{Reply}
 use Rattle.model.specs.declared.Right.{Right}
 use Rattle.model.specs.declared.State.{State}
-use Rattle.model.specs.Arguments.{arguments, checkAll}
+use Rattle.model.specs.Arguments.{goodOther, arguments, checkAll}
 use Rattle.model.specs.Calls.{entitled, enrols, goodCaller, judge, perform}
 use Rattle.model.specs.Changes.{allows}
 use Rattle.model.specs.Decision.{Decision, check}
@@ -27,13 +28,14 @@ use Rattle.model.specs.Leaves.{callerPlace}
 use Rattle.model.specs.Replies.{reply, replied, callOf}
 use Rattle.model.specs.Searches.{enrolled, freeEntry}
 use Rattle.model.specs.SoundTest.{sound}
-use Rattle.model.specs.Tables.{noGuest, noPermit, unusedEntry, spaceAt, guestAt}
+use Rattle.model.specs.Tables.{noGuest, noPermit, unusedEntry, spaceAt, guestAt, guestPlace}
 use Rattle.model.specs.Tokens.{malformed, assigned}
 use Rattle.model.proofs.Rules.{go-on, refuse-at, place-no, place-yes, place-is}
 use Rattle.model.proofs.Searches.{enrolled-guest}
 use Rattle.model.proofs.SoundTest.{sound-decides}
 use Rattle.model.proofs.Tokens.{formed}
 use Rattle.entries.specs.Assigned.{assignedTo}
+use Rattle.rights.specs.Leaves.{otherPlace}
 
 -- a refusal
 pub refused-at : (x : Reply) (s : State) (b : Bool) (a : Answer) (d : Decision) → x ≡ reply a s → b ≡ false → x ≡ replied (check s b a d)
@@ -58,46 +60,52 @@ module _ (x : Reply) (s : State) (c : Caller) (o : Operation) (n at : ℕ) (plai
   unfolding judge
   good-caller l r = go-on x s _ _ _ (caller-test ∙ place-yes at (s .guests) (c .guest) e l) r
 
+-- PERMIT's other guest
+module _ (gs : List Guest) (c : Caller) (h : ℕ) where
+  pub same-guest : h ≡ c .guest → 8 ≡ otherPlace gs c h
+  unfolding otherPlace
+  same-guest e = sym (no! _ _ (both-not (enrolled gs h) _ (not-yes _ (eq-eqb h (c .guest) e))))
+
+  pub other-guest : (r : ℕ) → (h ≡ c .guest → ⊥) → r ≡ callerPlace gs h → r ≡ otherPlace gs c h
+  unfolding otherPlace callerPlace
+  other-guest r ne p = p ∙ ap (λ b. choose b (guestPlace h) 8) (sym (both-comm (enrolled gs h) _ ∙ both-yes _ (not-no _ (ne-eqb h (c .guest) ne))))
+
+  pub other-no : (r : ℕ) → r ≡ otherPlace gs c h → 8 ≤ r → goodOther gs c h ≡ false
+  unfolding otherPlace
+  other-no r p l = not-so (goodOther gs c h) (λ e.
+      let i = enrolled-guest gs h (both-left (enrolled gs h) _ e) in
+      let q : r ≡ guestPlace h = p ∙ yes! _ _ e in
+      omega arith)
+
+  pub other-yes : (r : ℕ) → r ≡ otherPlace gs c h → r < 8 → goodOther gs c h ≡ true
+  unfolding otherPlace
+  other-yes r p l = ⊎-elim (λ e. e) (λ e. let q : r ≡ 8 = p ∙ no! _ _ e in absurd (omega arith)) (true-or-false (goodOther gs c h))
+
+  pub other-is : (r : ℕ) → r ≡ otherPlace gs c h → r < 8 → r ≡ guestPlace h
+  unfolding otherPlace
+  other-is r p l = p ∙ yes! _ _ (other-yes r p l)
+
 -- the guest at the place of the caller is the caller
 module _ (gs : List Guest) (at g : ℕ) (e : at ≡ callerPlace gs g) (l : at < 8) where
   pub guest-is : getD gs at noGuest ≡ guestAt gs g
   guest-is = ap (λ k. getD gs k noGuest) (place-is at gs g e l)
 
-  pub share-no : not (getD gs at noGuest .share) ≡ true → guestAt gs g .share ≡ false
-  share-no n = ap (λ (x : Guest). x .share) (sym guest-is) ∙ not-true _ n
-
-  pub share-yes : not (getD gs at noGuest .share) ≡ false → guestAt gs g .share ≡ true
-  share-yes n = ap (λ (x : Guest). x .share) (sym guest-is) ∙ not-false _ n
+  pub share-is : getD gs at noGuest .share ≡ guestAt gs g .share
+  share-is = ap (λ (x : Guest). x .share) guest-is
 
 module _ (s : State) (at g : ℕ) (e : at ≡ callerPlace (s .guests) g) (l : at < 8) where
   -- what `is_entitled` answered of the space in slot r
-  entitled-is : (r u : ℕ) (x : Right) (b : Bool) → r ≡ u
+  pub entitled-is : (r u : ℕ) (x : Right) (b : Bool) → r ≡ u
       → b ≡ either (eqb (spaceAt (s .spaces) r .owner) g) (allows (getD (s .permits) (r * 8 + at) noPermit .grant) x) → b ≡ entitled s g u x
   unfolding entitled
   entitled-is r u x b f a =
       a ∙ ap₂ (λ v k. either (eqb (spaceAt (s .spaces) v .owner) g) (allows (getD (s .permits) (v * 8 + k) noPermit .grant) x)) f (place-is at (s .guests) g e l)
 
-  pub entitled-no : (r u : ℕ) (x : Right) (b : Bool) → r ≡ u
-      → b ≡ either (eqb (spaceAt (s .spaces) r .owner) g) (allows (getD (s .permits) (r * 8 + at) noPermit .grant) x) → not b ≡ true → entitled s g u x ≡ false
-  entitled-no r u x b f a n = sym (entitled-is r u x b f a) ∙ not-true b n
-
-  pub entitled-yes : (r u : ℕ) (x : Right) (b : Bool) → r ≡ u
-      → b ≡ either (eqb (spaceAt (s .spaces) r .owner) g) (allows (getD (s .permits) (r * 8 + at) noPermit .grant) x) → not b ≡ false → entitled s g u x ≡ true
-  entitled-yes r u x b f a n = sym (entitled-is r u x b f a) ∙ not-false b n
-
   -- what `is_assigned` answered of the entry that the token names
-  assigned-is : (t : ℕ) (b : Bool) → b ≡ assignedTo (getD (s .entries) (at * 30 + (t % 65536 - 2)) unusedEntry) (getD (s .guests) at noGuest .list) t
+  pub assigned-is : (t : ℕ) (b : Bool) → b ≡ assignedTo (getD (s .entries) (at * 30 + (t % 65536 - 2)) unusedEntry) (getD (s .guests) at noGuest .list) t
       → b ≡ assigned (s .entries) g (guestAt (s .guests) g .list) t
   unfolding assigned
   assigned-is t b a = rw (← place-is at (s .guests) g e l) a
-
-  pub assigned-no : (t : ℕ) (b : Bool) → b ≡ assignedTo (getD (s .entries) (at * 30 + (t % 65536 - 2)) unusedEntry) (getD (s .guests) at noGuest .list) t
-      → not b ≡ true → assigned (s .entries) g (guestAt (s .guests) g .list) t ≡ false
-  assigned-no t b a n = sym (assigned-is t b a) ∙ not-true b n
-
-  pub assigned-yes : (t : ℕ) (b : Bool) → b ≡ assignedTo (getD (s .entries) (at * 30 + (t % 65536 - 2)) unusedEntry) (getD (s .guests) at noGuest .list) t
-      → not b ≡ false → assigned (s .entries) g (guestAt (s .guests) g .list) t ≡ true
-  assigned-yes t b a n = sym (assigned-is t b a) ∙ not-false b n
 
   -- a list of a sound state has its entries in the table
   pub list-high : sound s ≡ true → getD (s .guests) at noGuest .list ≤ 30
@@ -133,9 +141,9 @@ number-low t b z e n = formed t z (sym e ∙ n) .entry .low
 pub number-place : (at t : ℕ) (b : Bool) → at < 8 → (t ≡ 0 → ⊥) → b ≡ malformed t → b ≡ false → at * 30 + (t % 65536 - 2) < 240
 number-place at t b l z e n = let f = formed t z (sym e ∙ n) .entry in omega arith
 
-pub ruleset leaves = (good-caller, refused-at, share-no, share-yes, entitled-no, entitled-yes, assigned-no, assigned-yes, room-no)
+pub ruleset leaves = (good-caller, refused-at, other-no, other-yes, share-is, entitled-is, assigned-is, room-no, test-no, test-yes)
 
 pub ruleset bounds = (list-short, entry-short, number-low, number-place)
 
--- PERMIT's other guest: two tests in one
-pub ruleset others = (and-true, and-false, and-late, not-no, not-yes, eq-eqb, ne-eqb)
+-- QUERY's checks that are two tests in one
+pub ruleset pairs = (and-true, and-false, and-late, zero-leb, pos-leb, le-leb, lt-leb)

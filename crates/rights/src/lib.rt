@@ -2,17 +2,18 @@
 ghost use Prim.Native.Nat.{_<_};
 ghost use mathlib.Core.Bool.{true};
 ghost use mathlib.Core.Path.{_≡_};
+ghost use lib.Dec.{eqb};
 ghost use Rattle.lists.specs.Choice.{either};
 ghost use Rattle.model.specs.Calls.{judge};
 ghost use Rattle.model.specs.Changes.{allows};
 ghost use Rattle.model.specs.Replies.{reply, replied, callOf};
 ghost use Rattle.model.specs.SoundTest.{sound};
-ghost use Rattle.rights.specs.Entered.{entered};
 ghost use Rattle.model.specs.declared.Operation.the-variants.{Permit as PermitCall, Query, Add, Remove};
-ghost use lib.Dec.{eqb};
+ghost use Rattle.rights.specs.Leaves.{otherPlace, entered};
 use model::Answer;
 use model::Caller;
 use model::Entry;
+use model::Guest;
 use model::Kind;
 use model::Permit;
 use model::Reply;
@@ -31,6 +32,16 @@ fn refuse(s: State, a: Answer) -> Reply
     }
 }
 
+// The place of an enrolled guest that is not the caller; 8 for any other number.
+fn other_place(guests: [Guest; 8], caller: Caller, guest: u32) -> usize
+    ensures { λ r. ⌜ r ≡ otherPlace guests caller guest ⌝ }
+{
+    if guest == caller.guest {
+        return 8;
+    }
+    lookup::caller_place(guests, guest)
+}
+
 // The right becomes the greater of old and new.
 pub fn permit(mut s: State, caller: Caller, id: u32, guest: u32, right: Right) -> Reply
     requires { ⌜ sound s ≡ true ⌝ }
@@ -41,17 +52,8 @@ pub fn permit(mut s: State, caller: Caller, id: u32, guest: u32, right: Right) -
     if 8 <= at {
         return refuse(s, Answer::BadCaller);
     }
-    let to = lookup::caller_place(gs, guest);
+    let to = other_place(gs, caller, guest);
     if 8 <= to {
-        return refuse(
-            s,
-            Answer::Limit {
-                kind: Kind::OtherGuest,
-                place: 3,
-            },
-        );
-    }
-    if guest == caller.guest {
         return refuse(
             s,
             Answer::Limit {
@@ -87,7 +89,8 @@ pub fn permit(mut s: State, caller: Caller, id: u32, guest: u32, right: Right) -
 fn is_entitled(x: Space, p: Permit, guest: u32, right: Right) -> bool
     ensures { λ r. ⌜ r ≡ either (eqb (x .owner) guest) (allows (p .grant) right) ⌝ }
 {
-    if x.owner as u32 == guest {
+    let owner = x.owner as u32;
+    if owner == guest {
         return true;
     }
     let grant = p.grant;
@@ -158,7 +161,7 @@ fn enter(mut s: State, place: usize, k: usize, slot: usize, right: Right) -> Rep
 }
 
 // The lowest unused entry of the list stands for the space.
-pub fn add(mut s: State, caller: Caller, id: u32, right: Right) -> Reply
+pub fn add(s: State, caller: Caller, id: u32, right: Right) -> Reply
     requires { ⌜ sound s ≡ true ⌝ }
     ensures { λ r. ⌜ r ≡ replied (judge s (callOf caller (Add id right)) 0) ⌝ }
 {

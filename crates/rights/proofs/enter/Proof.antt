@@ -1,7 +1,7 @@
 -- `rights::enter` meets its contract. Assumes nothing.
 use mathlib.Core.Path.{refl}
 use borrow.Author.Needs.{needs}
-use Rattle.rights.specs.Entered.{entered}
+use Rattle.rights.specs.Leaves.{entered}
 use Rattle.rights.proofs.enter.Statement.{statement}
 use Rattle.rights.proofs.enter.Tie as tie
 

@@ -4,8 +4,8 @@ use Rattle.lists.proofs.Rules.{tests, calls}
 use Rattle.rights.proofs.is_entitled.Statement.{statement}
 use Rattle.rights.proofs.is_entitled.Tie as tie
 
-cast-if1 : tie.Need-cast-if1
-cast-if1 c = search needs
+cast-owner : tie.Need-cast-owner
+cast-owner c = search needs
 
 returns : tie.Need-returns
 returns c = search (tests, calls) depth 8
@@ -17,4 +17,4 @@ returns-2 : tie.Need-returns-2
 returns-2 c = search (tests, calls) depth 8
 
 pub is-entitled-spec : {M : Type 1} → statement M
-is-entitled-spec = tie.close (tie.spec cast-if1 returns allows-requires returns-2)
+is-entitled-spec = tie.close (tie.spec cast-owner returns allows-requires returns-2)

@@ -1,12 +1,11 @@
 -- `rights::query` meets its contract. Assumes nothing.
 use borrow.Author.Needs.{needs}
-use Rattle.lists.proofs.Rules.{tests}
 use Rattle.model.specs.Arguments.{arguments, checkAll}
 use Rattle.model.specs.Calls.{enrols, perform, query}
 use Rattle.model.proofs.Rules.{checks}
 use Rattle.lookup.proofs.Rules.{found}
 use Rattle.rights.proofs.Done.{query-done}
-use Rattle.rights.proofs.Rules.{answered, bad-caller, leaves}
+use Rattle.rights.proofs.Rules.{answered, bad-caller, leaves, pairs}
 use Rattle.rights.proofs.query.Statement.{statement}
 use Rattle.rights.proofs.query.Tie as tie
 
@@ -19,25 +18,25 @@ returns c = search (answered, bad-caller)
 
 returns-2 : tie.Need-returns-2
 unfolding enrols arguments checkAll perform query
-returns-2 c = search (answered, leaves, checks, found, tests) depth 8
+returns-2 c = search (answered, leaves, checks, found, pairs) depth 8
 
 returns-3 : tie.Need-returns-3
 unfolding enrols arguments checkAll perform query
-returns-3 c = search (answered, leaves, checks, found, tests) depth 8
+returns-3 c = search (answered, leaves, checks, found, pairs) depth 8
 
 good-name-requires : tie.Need-good-name-requires
 good-name-requires c κs = search needs
 
 returns-4 : tie.Need-returns-4
 unfolding enrols arguments checkAll perform query
-returns-4 c = search (answered, leaves, checks, found, tests) depth 8
+returns-4 c = search (answered, leaves, checks, found, pairs) depth 8
 
 find-named-requires : tie.Need-find-named-requires
 find-named-requires c κs = search needs
 
 returns-5 : tie.Need-returns-5
 unfolding enrols arguments checkAll perform query
-returns-5 c = search (answered, leaves, checks, found, tests) depth 8
+returns-5 c = search (answered, leaves, checks, found, pairs) depth 8
 
 mul-x : tie.Need-mul-x
 mul-x c = search needs
@@ -59,7 +58,7 @@ is-entitled-requires c κs = search needs
 
 returns-6 : tie.Need-returns-6
 unfolding enrols arguments checkAll perform query
-returns-6 c = search (answered, leaves, checks, found, tests) depth 8
+returns-6 c = search (answered, leaves, checks, found, pairs) depth 8
 
 returns-7 : tie.Need-returns-7
 returns-7 c = search query-done
