@@ -1,0 +1,121 @@
+-- The data of a line that asks to store. Assumes nothing.
+use Prim.Native.Nat.{ℕ, _-_, _/_, _≤_}
+use mathlib.Core.Bool.{Bool, true, false}
+use mathlib.Core.List.{List, [], _∷_}
+use mathlib.Core.Path.{_≡_, refl, sym, ap, _∙_}
+use native.Mathlib.Omega.{arith}
+use lib.Dec.{leb}
+use lib.ListN.{length, getD, take, drop, length-drop}
+use lib.Seq.{take-all}
+use Rattle.lists.specs.Bytes.{over}
+use Rattle.lists.specs.Choice.{choose}
+use Rattle.lists.proofs.Choice.{true-false, both-right}
+use Rattle.model.specs.declared.Request.the-variants.{NotRead}
+use Rattle.model.specs.Lines.{fields, is, hexDigits, hexField, hexBytes, number, hex, fieldOf, Values, values, unread, readFields, Form, forms, at, sameBytes, makeBy, readBy, readAll, readLine, dataOf}
+use Rattle.lines.specs.Fields.{later}
+use Rattle.lines.specs.Stores.{isStore, stores, lengthOf}
+use Rattle.lines.proofs.Cuts.{last-field}
+use Rattle.lines.proofs.Values.{spelt-is, first-of, none-of}
+
+-- the fields after the name of a store: three, and n bytes of data
+record Store (fs : List (List ℕ)) (n : ℕ) : Type 0 where
+  caller : List ℕ
+  register : List ℕ
+  address : List ℕ
+  hexes : List ℕ
+  are : fs ≡ caller ∷ register ∷ address ∷ hexes ∷ []
+  count : hexField hexes ≡ is n
+
+four-fields : (fs : List (List ℕ)) (vs : List ℕ) → readFields (number ∷ number ∷ number ∷ hex ∷ []) fs ≡ values vs → Store fs (at vs 3)
+unfolding fieldOf
+four-fields fs vs e =
+    let a = first-of number (number ∷ number ∷ hex ∷ []) fs vs e in
+    let b = first-of number (number ∷ hex ∷ []) (a .fields) (a .others) (a .read) in
+    let c = first-of number (hex ∷ []) (b .fields) (b .others) (b .read) in
+    let d = first-of hex [] (c .fields) (c .others) (c .read) in
+    let f : fs ≡ a .field ∷ b .field ∷ c .field ∷ d .field ∷ [] = cc (none-of (d .fields) (d .others) (d .read) .0) in
+    let v : vs ≡ a .value ∷ b .value ∷ c .value ∷ d .value ∷ d .others = cc in
+    record { caller = a .field; register = b .field; address = c .field; hexes = d .field; are = f; count = d .spells ∙ ap is (sym (ap (λ l. at l 3) v)) }
+
+-- of all forms one makes requests to store
+data Storing (f : Form) : Type 0 where
+  never : ((v : List ℕ) → stores (f .make v) ≡ false) → Storing f
+  last : f .kinds ≡ number ∷ number ∷ number ∷ hex ∷ [] → ((v : List ℕ) → lengthOf (f .make v) ≡ at v 3) → Storing f
+
+data Each : List Form → Type 0 where
+  none : Each []
+  and : {f : Form} {fs : List Form} → Storing f → Each fs → Each (f ∷ fs)
+
+each : Each forms
+unfolding forms stores isStore lengthOf
+each =
+    and (never (λ v. refl)) (and (never (λ v. refl)) (and (never (λ v. refl)) (and (never (λ v. refl)) (and (never (λ v. refl)) (and (never (λ v. refl)) (and (never (λ v. refl))
+    (and (never (λ v. refl)) (and (never (λ v. refl)) (and (never (λ v. refl)) (and (never (λ v. refl)) (and (never (λ v. refl)) (and (last refl (λ v. refl)) (and (never (λ v. refl)) none)))))))))))))
+
+store-form : (f : Form) (fs : List (List ℕ)) → Storing f → stores (makeBy (f .make) (readFields (f .kinds) fs)) ≡ true → Store fs (lengthOf (makeBy (f .make) (readFields (f .kinds) fs)))
+unfolding makeBy stores
+store-form f fs s y = go (readFields (f .kinds) fs) refl s y
+  where
+    go : (x : Values) → readFields (f .kinds) fs ≡ x → Storing f → stores (makeBy (f .make) x) ≡ true → Store fs (lengthOf (makeBy (f .make) x))
+    go unread q s y = true-false y refl
+    go (values vs) q (never n) y = true-false y (n vs)
+    go (values vs) q (last k l) y = rw (l vs) (four-fields fs vs (ap (λ ks. readFields ks fs) (sym k) ∙ q))
+
+store-by : (forms : List Form) → Each forms → (w : List ℕ) (fs : List (List ℕ)) → stores (readBy forms w fs) ≡ true → Store fs (lengthOf (readBy forms w fs))
+unfolding readBy stores choose
+store-by [] e w fs y = true-false y refl
+store-by (f ∷ forms) (and s e) w fs y = go (sameBytes (f .word) w) y (store-by forms e w fs)
+  where
+    go : (b : Bool) → stores (choose b (makeBy (f .make) (readFields (f .kinds) fs)) (readBy forms w fs)) ≡ true → (stores (readBy forms w fs) ≡ true → Store fs (lengthOf (readBy forms w fs)))
+        → Store fs (lengthOf (choose b (makeBy (f .make) (readFields (f .kinds) fs)) (readBy forms w fs)))
+    go true y r = store-form f fs s y
+    go false y r = r y
+
+-- so a line that asks to store has five fields
+record Five (fs : List (List ℕ)) (n : ℕ) : Type 0 where
+  word : List ℕ
+  others : List (List ℕ)
+  are : fs ≡ word ∷ others
+  store : Store others n
+
+five-fields : (l : List ℕ) → stores (readLine l) ≡ true → Five (fields l) (lengthOf (readLine l))
+unfolding readLine readAll stores choose
+five-fields l y = by-length (leb (length l) 600) y
+  where
+    by-fields : (fs : List (List ℕ)) → stores (readAll fs) ≡ true → Five fs (lengthOf (readAll fs))
+    by-fields [] y = true-false y refl
+    by-fields (w ∷ fs) y = record { word = w; others = fs; are = refl; store = store-by forms each w fs y }
+
+    by-length : (b : Bool) → stores (choose b (readAll (fields l)) NotRead) ≡ true → Five (fields l) (lengthOf (choose b (readAll (fields l)) NotRead))
+    by-length true y = by-fields (fields l) y
+    by-length false y = true-false y refl
+
+-- Where each field after the name starts, up to the data, which are all that is left of the line.
+module _ (l : List ℕ) (caller register address start : ℕ) (y : stores (readLine l) ≡ true)
+    (a : fields (drop caller l) ≡ later (fields (drop 0 l))) (b : fields (drop register l) ≡ later (fields (drop caller l)))
+    (c : fields (drop address l) ≡ later (fields (drop register l))) (d : fields (drop start l) ≡ later (fields (drop address l))) where
+  rest-is : (hexField (take (length l - start) (drop start l)) ≡ is (lengthOf (readLine l))) × (hexBytes (take (length l - start) (drop start l)) ≡ dataOf l)
+  unfolding later dataOf
+  rest-is =
+      let f = five-fields l y in
+      let s = f .store in
+      let e : fields l ≡ f .word ∷ s .caller ∷ s .register ∷ s .address ∷ s .hexes ∷ [] = f .are ∙ ap (λ x. f .word ∷ x) (s .are) in
+      let g : fields (drop start l) ≡ s .hexes ∷ [] = d ∙ ap later (c ∙ ap later (b ∙ ap later (a ∙ ap later e))) in
+      let h : take (length l - start) (drop start l) ≡ s .hexes = take-all (length l - start) (drop start l) (omega (arith, length-drop start l)) ∙ last-field (drop start l) (s .hexes) g in
+      (ap hexField h ∙ s .count, ap hexBytes (h ∙ sym (ap (λ x. getD x 4 []) e)))
+
+  rest-good : (hexDigits (take (length l - start) (drop start l)) ≡ true) × (length (take (length l - start) (drop start l)) / 2 ≡ lengthOf (readLine l))
+  unfolding hexField
+  rest-good = let s = spelt-is _ (length (take (length l - start) (drop start l)) / 2) (lengthOf (readLine l)) (rest-is .0) in (both-right _ _ (s .0), s .1)
+
+  pub data-digits : hexDigits (take (length l - start) (drop start l)) ≡ true
+  data-digits = rest-good .0
+
+  pub data-room : (m : ℕ) → lengthOf (readLine l) ≤ m → length (take (length l - start) (drop start l)) / 2 ≤ m
+  data-room m h = omega (arith, rest-good .1)
+
+  pub data-count : (r : ℕ) → r ≡ length (take (length l - start) (drop start l)) / 2 → r ≡ lengthOf (readLine l)
+  data-count r e = e ∙ rest-good .1
+
+  pub data-is : (o t : List ℕ) → t ≡ over o 0 (hexBytes (take (length l - start) (drop start l))) → t ≡ over o 0 (dataOf l)
+  data-is o t e = e ∙ ap (over o 0) (rest-is .1)

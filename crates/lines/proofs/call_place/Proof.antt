@@ -1,0 +1,58 @@
+-- `lines::call_place` meets its contract.
+use Prim.Native.Nat.{_-_, _≤_}
+use mathlib.Core.Path.{_≡_}
+use native.Mathlib.Omega.{arith}
+use lib.Dec.{eqb}
+use lib.ListN.{getD}
+use Rattle.lists.specs.Places.{lowestFrom}
+use Rattle.lists.proofs.Rules.{loops}
+use Rattle.lines.specs.Tables.{placeOf}
+use Rattle.lines.proofs.Tables.{place-from}
+use borrow.Author.Needs.{needs}
+use Rattle.lines.proofs.call_place.Statement.{statement}
+use Rattle.lines.proofs.call_place.Tie as tie
+
+abbrev Inv-loop : tie.InvT-loop
+Inv-loop names word i₀ i = (i ≤ 14) × (placeOf word ≡ lowestFrom (λ k. eqb (getD names k 0) word) i (14 - i))
+
+abbrev μ-loop : tie.MeasureT-loop
+μ-loop names word i₀ i = 14 - i
+
+loop-holds : tie.Need-loop-holds Inv-loop μ-loop
+loop-holds c = (omega arith, place-from (c .args .names .now) (c .args .word) (c .pre))
+
+mul-if1 : tie.Need-mul-if1 Inv-loop μ-loop
+mul-if1 c = search needs
+
+element-copy-out-if1 : tie.Need-element-copy-out-if1 Inv-loop μ-loop
+element-copy-out-if1 c = search needs
+
+returns : tie.Need-returns Inv-loop μ-loop
+returns c = search loops
+
+add-i : tie.Need-add-i Inv-loop μ-loop
+add-i c = search needs
+
+loop-less : tie.Need-loop-less Inv-loop μ-loop
+loop-less c = search needs
+
+loop-again : tie.Need-loop-again Inv-loop μ-loop
+loop-again c = search loops
+
+returns-2 : tie.Need-returns-2 Inv-loop μ-loop
+returns-2 c = search loops
+
+pub call-place-spec : {M : Type 1} → statement M
+call-place-spec =
+    tie.close
+    (tie.spec
+    Inv-loop
+    μ-loop
+    loop-holds
+    mul-if1
+    element-copy-out-if1
+    returns
+    add-i
+    loop-less
+    loop-again
+    returns-2)

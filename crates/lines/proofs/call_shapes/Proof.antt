@@ -1,0 +1,13 @@
+-- `lines::call_shapes` meets its contract.
+use Rattle.model.specs.Lines.{forms}
+use Rattle.lines.specs.Tables.{callShapes, shapeOf, kindNumber}
+use borrow.Author.Needs.{needs}
+use Rattle.lines.proofs.call_shapes.Statement.{statement}
+use Rattle.lines.proofs.call_shapes.Tie as tie
+
+returns : tie.Need-returns
+unfolding callShapes forms shapeOf kindNumber
+returns c = search needs
+
+pub call-shapes-spec : {M : Type 1} → statement M
+call-shapes-spec = tie.close (tie.spec returns)

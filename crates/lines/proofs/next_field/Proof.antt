@@ -1,0 +1,20 @@
+-- `lines::next_field` meets its contract.
+use Rattle.lines.proofs.Cuts.{later-some, later-none}
+use borrow.Author.Needs.{needs}
+use Rattle.lines.proofs.next_field.Statement.{statement}
+use Rattle.lines.proofs.next_field.Tie as tie
+
+field-end-requires : tie.Need-field-end-requires
+field-end-requires c κs = search needs
+
+add-result : tie.Need-add-result
+add-result c = search needs
+
+returns : tie.Need-returns
+returns c = (search later-some, search needs)
+
+returns-2 : tie.Need-returns-2
+returns-2 c = (search later-none, search needs)
+
+pub next-field-spec : {M : Type 1} → statement M
+next-field-spec = tie.close (tie.spec field-end-requires add-result returns returns-2)

@@ -1,0 +1,29 @@
+-- The fields of a line, as the code finds them.
+use Prim.Native.Nat.{ℕ, _-_, _<_}
+use mathlib.Core.List.{List, [], _∷_}
+use lib.Dec.{eqb}
+use lib.ListN.{length, getD}
+use Rattle.lists.specs.Places.{lowestFrom}
+use Rattle.model.specs.Lines.{fields, Spelt, is, bad}
+use Rattle.lines.specs.declared.Field.{Field}
+use Rattle.lines.specs.declared.Field.the-variants.{Is, Bad}
+
+-- what a field spells, in the code's type
+unfoldable pub asField : Spelt → Field
+asField (is n) = Is n
+asField bad = Bad
+
+-- the place of the first tab of l from i on, and the length of l where there is none
+abbrev pub tabFrom : List ℕ → ℕ → ℕ
+tabFrom l i = lowestFrom (λ k. eqb (getD l k 0) 9) i (length l - i)
+
+-- the fields that follow a field, given what is left of the line at its end: nothing, or a tab and what follows it
+unfoldable pub following : List ℕ → List (List ℕ)
+following [] = []
+following (t ∷ l) = fields l
+
+-- the fields after the first; what follows a last field is an empty one
+unfoldable pub later : List (List ℕ) → List (List ℕ)
+later [] = [] ∷ []
+later (f ∷ []) = [] ∷ []
+later (f ∷ g ∷ fs) = g ∷ fs

@@ -1,0 +1,60 @@
+-- The reader's two tables, which are the model's `forms` in numbers, and the request that values make.
+use Prim.Native.Nat.{ℕ, _+_, _*_, _%_}
+use mathlib.Core.List.{List, [], _∷_, map}
+use lib.Dec.{eqb}
+use lib.ListN.{getD}
+use Rattle.lists.specs.Choice.{choose}
+use Rattle.lists.specs.Places.{lowest}
+use Rattle.model.specs.declared.Operation.{Operation}
+use Rattle.model.specs.declared.Request.{Request}
+use Rattle.model.specs.declared.Request.the-variants.{Call, NotRead}
+use Rattle.model.specs.Lines.{Form, forms, FieldKind, number, name, right, hex, packedName, at}
+
+-- the forms by number; none at 14 and above
+abbrev pub formAt : ℕ → Form
+formAt p = getD forms p (record { word = []; kinds = []; make = λ v. NotRead })
+
+-- kinds as numbers
+unfoldable pub kindNumber : FieldKind → ℕ
+kindNumber number = 1
+kindNumber name = 2
+kindNumber right = 3
+kindNumber hex = 4
+
+unfoldable pub kindOf : ℕ → FieldKind
+kindOf n = choose (eqb n 1) number (choose (eqb n 2) name (choose (eqb n 3) right hex))
+
+-- the kinds of a call's fields as octal digits, the first the lowest
+unfoldable pub shapeOf : List FieldKind → ℕ
+shapeOf [] = 0
+shapeOf (k ∷ ks) = kindNumber k + 8 * shapeOf ks
+
+unfoldable pub callNames : List ℕ
+callNames = map (λ f. packedName (f .word)) forms
+
+unfoldable pub callShapes : List ℕ
+callShapes = map (λ f. shapeOf (f .kinds)) forms
+
+-- the number of the call that a packed name names, or 14
+abbrev pub placeOf : ℕ → ℕ
+placeOf n = lowest (λ i. eqb (getD callNames i 0) n) 14
+
+-- The code holds every value in 64 bits, and takes the lower 32 of what is a number or a count.
+unfoldable pub low : FieldKind → ℕ → ℕ
+low number v = v % 4294967296
+low name v = v
+low right v = v
+low hex v = v % 4294967296
+
+-- the values of the kinds ks, from place i of v on
+unfoldable pub lowered : List FieldKind → ℕ → List ℕ → List ℕ
+lowered [] i v = []
+lowered (k ∷ ks) i v = low k (at v i) ∷ lowered ks (i + 1) v
+
+-- the request of a call
+abbrev pub askedBy : (guest : ℕ) → Operation → (length : ℕ) → Request
+askedBy g o n = Call (record { caller = record { guest = g }; operation = o }) n
+
+-- the request that the values of v make of the call p
+unfoldable pub madeBy : ℕ → List ℕ → Request
+madeBy p v = formAt p .make (lowered (formAt p .kinds) 0 v)

@@ -1,0 +1,314 @@
+// One line of a session, read in place: the request that it spells, and the data of a store. What a line spells is `readLine`
+// of the model, and its data `dataOf`.
+ghost use Prim.Native.Nat.{_+_, _-_, _/_, _≤_, _<_};
+ghost use mathlib.Core.Bool.{true};
+ghost use mathlib.Core.Path.{_≡_};
+ghost use lib.ListN.{length, drop};
+ghost use Rattle.lists.specs.Bytes.{over};
+ghost use Rattle.model.specs.Lines.{fields, hexDigit, hexValue, hexDigits, hexBytes, readFields, makeBy, rightOf, readLine, dataOf};
+ghost use Rattle.lines.specs.Fields.{tabFrom, following, later};
+ghost use Rattle.lines.specs.Tables.{formAt, shapeOf, callNames, callShapes, placeOf, askedBy, madeBy};
+ghost use Rattle.lines.specs.Stores.{stores, lengthOf};
+use model::Call;
+use model::Caller;
+use model::Operation;
+use model::Request;
+use model::Right;
+
+mod fields;
+
+// What a field spells: a number, a name as one number, a right as 0 or 1, or how many bytes of data.
+pub enum Field {
+    Is(u64),
+    Bad,
+}
+
+// The place of the first tab at or after `from`, or the line's length.
+fn field_end(line: &[u8], from: usize) -> usize
+    requires { ⌜ from ≤ length (now line) ⌝ }
+    ensures { λ r. ⌜ (r ≡ tabFrom (now (line .entry)) from) × (from ≤ r) × (r ≤ length (now (line .entry))) ⌝ }
+{
+    let mut i = from;
+    while i < line.len() {
+        if line[i] == 9 {
+            return i;
+        }
+        i += 1;
+    }
+    i
+}
+
+// The calls' names, each as one number. The tables are built once and lent to `read`: a constant that is indexed is built anew
+// at each use.
+pub fn call_names() -> [u64; 14]
+    ensures { λ r. ⌜ r ≡ callNames ⌝ }
+{
+    [
+        0x4652414d45532020,
+        0x454e524f4c202020,
+        0x4352454154452020,
+        0x44455354524f5920,
+        0x5045524d49542020,
+        0x49534f4c41544520,
+        0x5155455259202020,
+        0x4144442020202020,
+        0x52454d4f56452020,
+        0x4c4f414420202020,
+        0x4d4f444520202020,
+        0x4645544348202020,
+        0x53544f5245202020,
+        0x5245534554202020,
+    ]
+}
+
+// The kinds of each call's fields, three bits a field, the first lowest: 1 a number, 2 a name, 3 a right, 4 data.
+pub fn call_shapes() -> [u64; 14]
+    ensures { λ r. ⌜ r ≡ callShapes ⌝ }
+{
+    [
+        0o1,
+        0o111111,
+        0o121,
+        0o11,
+        0o3111,
+        0o11,
+        0o211,
+        0o311,
+        0o11,
+        0o111,
+        0o11,
+        0o1111,
+        0o4111,
+        0o1,
+    ]
+}
+
+// The number of the call that a packed name names, or 14.
+fn call_place(names: &[u64; 14], word: u64) -> usize
+    requires { ⌜ now names ≡ callNames ⌝ }
+    ensures { λ r. ⌜ (r ≡ placeOf word) × (r ≤ 14) ⌝ }
+{
+    let mut i: usize = 0;
+    while i < 14 {
+        if names[i] == word {
+            return i;
+        }
+        i += 1;
+    }
+    i
+}
+
+fn right_of(v: u64) -> Right
+    ensures { λ r. ⌜ r ≡ rightOf v ⌝ }
+{
+    if v == 0 {
+        return Right::Read;
+    }
+    Right::Write
+}
+
+fn asked(guest: u32, operation: Operation, length: u32) -> Request
+    ensures { λ r. ⌜ r ≡ askedBy guest operation length ⌝ }
+{
+    let caller = Caller { guest: guest };
+    let call = Call {
+        caller: caller,
+        operation: operation,
+    };
+    Request::Call {
+        call: call,
+        length: length,
+    }
+}
+
+// Only the lower 32 bits of a number are taken: a number that was read has no others.
+fn make(place: usize, v: [u64; 6]) -> Request
+    ensures { λ r. ⌜ r ≡ madeBy place v ⌝ }
+{
+    let a = (v[0] % 4294967296) as u32;
+    let b = (v[1] % 4294967296) as u32;
+    let c = (v[2] % 4294967296) as u32;
+    let d = (v[3] % 4294967296) as u32;
+    let e = (v[4] % 4294967296) as u32;
+    let f = (v[5] % 4294967296) as u32;
+    match place {
+        0 => Request::Frames { frames: a },
+        1 => asked(
+            a,
+            Operation::Enrol {
+                pages: b,
+                allowance: c,
+                share: d,
+                list: e,
+                asf: f,
+            },
+            0,
+        ),
+        2 => asked(
+            a,
+            Operation::Create {
+                name: v[1],
+                pages: c,
+            },
+            0,
+        ),
+        3 => asked(a, Operation::Destroy { id: b }, 0),
+        4 => asked(
+            a,
+            Operation::Permit {
+                id: b,
+                guest: c,
+                right: right_of(v[3]),
+            },
+            0,
+        ),
+        5 => asked(a, Operation::Isolate { id: b }, 0),
+        6 => asked(
+            a,
+            Operation::Query {
+                owner: b,
+                name: v[2],
+            },
+            0,
+        ),
+        7 => asked(
+            a,
+            Operation::Add {
+                id: b,
+                right: right_of(v[2]),
+            },
+            0,
+        ),
+        8 => asked(a, Operation::Remove { token: b }, 0),
+        9 => asked(
+            a,
+            Operation::Load {
+                register: b,
+                value: c,
+            },
+            0,
+        ),
+        10 => asked(a, Operation::Mode { mode: b }, 0),
+        11 => asked(
+            a,
+            Operation::Fetch {
+                register: b,
+                address: c,
+            },
+            d,
+        ),
+        12 => asked(
+            a,
+            Operation::Store {
+                register: b,
+                address: c,
+            },
+            d,
+        ),
+        13 => asked(a, Operation::Reset, 0),
+        _ => Request::NotRead,
+    }
+}
+
+// The fields after the call's name, which ends at `first`.
+fn arguments(line: &[u8], place: usize, shape: u64, first: usize) -> Request
+    requires { ⌜ (place < 14) × (shape ≡ shapeOf (formAt place .kinds)) × (first ≤ length (now line)) ⌝ }
+    ensures { λ r. ⌜ r ≡ makeBy (formAt place .make) (readFields (formAt place .kinds) (following (drop first (now (line .entry))))) ⌝ }
+{
+    let mut values = [0u64; 6];
+    let mut kinds = shape;
+    let mut end = first;
+    let mut k: usize = 0;
+    while kinds != 0 {
+        if line.len() <= end {
+            return Request::NotRead;
+        }
+        let start = end + 1;
+        end = field_end(line, start);
+        let Field::Is(v) = fields::read_field(kinds % 8, &line[start..end]) else {
+            return Request::NotRead;
+        };
+        values[k] = v;
+        kinds = kinds / 8;
+        k += 1;
+    }
+    if end < line.len() {
+        return Request::NotRead;
+    }
+    make(place, values)
+}
+
+// One line, without its newline.
+pub fn read(line: &[u8], names: &[u64; 14], shapes: &[u64; 14]) -> Request
+    requires { ⌜ (now names ≡ callNames) × (now shapes ≡ callShapes) ⌝ }
+    ensures { λ r. ⌜ r ≡ readLine (now (line .entry)) ⌝ }
+{
+    if 600 < line.len() {
+        return Request::NotRead;
+    }
+    let first = field_end(line, 0);
+    let Field::Is(word) = fields::name(&line[0..first]) else {
+        return Request::NotRead;
+    };
+    let place = call_place(names, word);
+    if 14 <= place {
+        return Request::NotRead;
+    }
+    arguments(line, place, shapes[place], first)
+}
+
+pub fn read_line(line: &[u8]) -> Request
+    ensures { λ r. ⌜ r ≡ readLine (now (line .entry)) ⌝ }
+{
+    let names = call_names();
+    let shapes = call_shapes();
+    read(line, &names, &shapes)
+}
+
+fn hex_value(b: u8) -> u8
+    requires { ⌜ hexDigit b ≡ true ⌝ }
+    ensures { λ r. ⌜ (r ≡ hexValue b) × (r ≤ 15) ⌝ }
+{
+    if b < 58 {
+        return b - 48;
+    }
+    b - 55
+}
+
+// The bytes that pairs of digits spell, over the first of `out`; how many they are.
+fn decode(f: &[u8], out: &mut [u8]) -> usize
+    requires { ⌜ (hexDigits (now f) ≡ true) × (length (now f) / 2 ≤ length (now out)) ⌝ }
+    ensures { λ r. ⌜ (r ≡ length (now (f .entry)) / 2) × (now (out .exit) ≡ over (now (out .entry)) 0 (hexBytes (now (f .entry)))) ⌝ }
+{
+    let n = f.len() / 2;
+    let mut i: usize = 0;
+    while i < n {
+        out[i] = hex_value(f[i + i]) * 16 + hex_value(f[i + i + 1]);
+        i += 1;
+    }
+    n
+}
+
+// Where the next field starts.
+fn next_field(line: &[u8], from: usize) -> usize
+    requires { ⌜ from ≤ length (now line) ⌝ }
+    ensures { λ r. ⌜ (fields (drop r (now (line .entry))) ≡ later (fields (drop from (now (line .entry))))) × (r ≤ length (now (line .entry))) ⌝ }
+{
+    let tab = field_end(line, from);
+    if tab < line.len() {
+        return tab + 1;
+    }
+    tab
+}
+
+// The data of a line that asks to store, over the first bytes of `out`; how many they are.
+pub fn read_data(line: &[u8], out: &mut [u8]) -> usize
+    requires { ⌜ (stores (readLine (now line)) ≡ true) × (lengthOf (readLine (now line)) ≤ length (now out)) ⌝ }
+    ensures { λ r. ⌜ (r ≡ lengthOf (readLine (now (line .entry)))) × (now (out .exit) ≡ over (now (out .entry)) 0 (dataOf (now (line .entry)))) ⌝ }
+{
+    let caller = next_field(line, 0);
+    let register = next_field(line, caller);
+    let address = next_field(line, register);
+    let start = next_field(line, address);
+    decode(&line[start..], out)
+}

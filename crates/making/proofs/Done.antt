@@ -1,0 +1,142 @@
+-- What ENROL and CREATE have made where every check passed is what the model says; and the checks before, one at a time.
+-- Assumes nothing.
+use Prim.Native.Nat.{ℕ, _+_, _-_, _*_, _≤_, _<_}
+use mathlib.Core.Bool.{Bool, true, false, not}
+use mathlib.Core.List.{List, _++_}
+use mathlib.Core.Path.{_≡_, refl, sym, ap, ap₂, _∙_}
+use native.Mathlib.Omega.{arith}
+use lib.ListN.{getD, length, take, drop, set, replicate, length-take, length-drop}
+use lib.Seq.{getD-set-same}
+use borrow.Author.Tests.{lt-ltb, le-leb, lt-leb, eq-eqb, ne-eqb, not-false}
+use Rattle.lists.specs.Bytes.{over}
+use Rattle.lists.specs.Choice.{choose}
+use Rattle.lists.proofs.Choice.{both-intro}
+use Rattle.lists.specs.Places.{placesFrom}
+use Rattle.lists.proofs.Bytes.{over-lent}
+use Rattle.model.specs.declared.Answer.{Answer}
+use Rattle.model.specs.declared.Answer.the-variants.{Done, NameTaken, AllowanceUsed}
+use Rattle.model.specs.declared.Caller.{Caller}
+use Rattle.model.specs.declared.Guest.{Guest}
+use Rattle.model.specs.declared.Operation.the-variants.{Create}
+use Rattle.model.specs.declared.Reply.{Reply}
+use Rattle.model.specs.declared.Space.{Space}
+use Rattle.model.specs.declared.State.{State}
+use Rattle.model.specs.Arguments.{arguments, checkAll}
+use Rattle.model.specs.Calls.{made, making, create, perform, enrols, goodCaller, judge}
+use Rattle.model.specs.Decision.{Decision, check}
+use Rattle.model.specs.Frames.{layout, frameOf, framesOf}
+use Rattle.model.specs.Leaves.{callerPlace}
+use Rattle.model.specs.Names.{goodName}
+use Rattle.model.specs.Replies.{reply, replied, callOf}
+use Rattle.model.specs.Searches.{slotNamed, dataSpaces, freeSlot, freeRun, runIn}
+use Rattle.model.specs.SoundTest.{sound}
+use Rattle.model.specs.Step.{clearFrames, scratchAfter}
+use Rattle.model.specs.Tables.{noSpace, noGuest, spaceAt, guestAt, withGuests, withNext, withSpaces}
+use Rattle.model.proofs.Rules.{check-yes, check-no, place-yes, place-is}
+use Rattle.model.proofs.Runs.{lowest-run}
+use Rattle.model.proofs.Searches.{enrolled-guest}
+use Rattle.model.proofs.SoundTest.{sound-decides}
+use Rattle.making.specs.Made.{MadeBy}
+use Rattle.making.proofs.Clear.{clear-run}
+
+pub stops : (s : State) (b : Bool) (a : Answer) (d : Decision) (m : List ℕ) → b ≡ false → MadeBy (check s b a d) (reply a s) m m
+unfolding replied scratchAfter
+stops s b a d m e = rw (check-no s a d e) (record { reply = refl; scratch = refl })
+
+pub goes : (r : Reply) (s : State) (b : Bool) (a : Answer) (d : Decision) (m m' : List ℕ) → b ≡ true → MadeBy d r m m' → MadeBy (check s b a d) r m m'
+goes r s b a d m m' e p = rw (check-yes s a d e) p
+
+pub ruleset steps = (stops, goes)
+
+-- the run of a new space lies in scratch
+module _ (s : State) (guests : List Guest) (owner name pages slot first : ℕ) (m : List ℕ)
+    (slot-is : slot ≡ freeSlot (s .spaces)) (slot-lt : slot < 32) (next-lt : s .next < 65536)
+    (first-is : first ≡ runIn (s .frames) (s .spaces) (s .spaces) pages) (first-lt : first < s .frames)
+    (ok : sound s ≡ true) (room : length m ≡ s .frames * 4096) where
+  abbrev new : Space
+  new = record { id = s .next; owner = owner; name = name; first = first; pages = pages }
+
+  abbrev t : State
+  t = withNext (withSpaces (withGuests s guests) (set (s .spaces) slot new)) (s .next + 1)
+
+  state-is : made s (withGuests s guests) owner name pages ≡ t
+  unfolding made
+  state-is = rw (slot-is, first-is) refl
+
+  fits : first * 4096 + pages * 4096 ≤ length m
+  fits =
+      let run : freeRun s pages < s .frames = rw (← first-is) first-lt in
+      let q = lowest-run s pages .found run .inside in
+      let e : freeRun s pages ≡ first = sym first-is in
+      omega (arith, room, q, e)
+
+  long : length (s .spaces) ≡ 32
+  long = sound-decides s .to ok .spaces .len
+
+  at-slot : spaceAt (t .spaces) slot ≡ new
+  at-slot = getD-set-same (s .spaces) slot new noSpace (rw long slot-lt)
+
+  frames-are : clearFrames (framesOf t slot) m ≡ over m (first * 4096) (replicate (pages * 4096) 0)
+  unfolding framesOf frameOf
+  frames-are =
+      ap (λ n. clearFrames (placesFrom (frameOf (layout t) slot) 0 n) m) (ap (λ (x : Space). x .pages) at-slot)
+      ∙ clear-run (frameOf (layout t) slot) first pages (λ q. ap (λ (x : Space). x .first + q) at-slot) m fits
+
+  -- the part that is cleared is there
+  pub clear-fits : pages * 4096 ≤ length (take (length m - first * 4096) (drop (first * 4096) m))
+  clear-fits = simp (length-take, length-drop) (omega (arith, fits))
+
+  pub make-done : (y : List ℕ) → y ≡ over (take (length m - first * 4096) (drop (first * 4096) m)) 0 (replicate (pages * 4096) 0)
+      → MadeBy (making s (withGuests s guests) owner name pages) (reply (Done (s .next)) t) m (take (first * 4096) m ++ (y ++ drop (length m - first * 4096) (drop (first * 4096) m)))
+  unfolding making replied scratchAfter
+  make-done y z =
+      goes _ s _ _ _ m _ (rw (← slot-is) (lt-ltb slot 32 slot-lt))
+      (goes _ s _ _ _ m _ (lt-ltb (s .next) 65536 next-lt)
+      (goes _ s _ _ _ m _ (rw (← first-is) (lt-ltb first (s .frames) first-lt))
+      (record {
+        reply = ap (reply (Done (s .next))) (sym state-is);
+        scratch = over-lent m (replicate (pages * 4096) 0) y (first * 4096) z ∙ sym frames-are ∙ ap₂ (λ (x : State) u. clearFrames (framesOf x u) m) (sym state-is) slot-is;
+      })))
+
+pub first-small : (s : State) (first : ℕ) → sound s ≡ true → first < s .frames → first < 65536
+first-small s first ok l = omega (arith, sound-decides s .to ok .head .frames-high)
+
+-- an enrolled guest's number
+pub owner-small : (gs : List Guest) (g at : ℕ) → at ≡ callerPlace gs g → at < 8 → g ≤ 8
+owner-small gs g at e l = enrolled-guest gs g (place-yes at gs g e l) .high
+
+-- CREATE after the checks 2 and 3, and its own
+module _ (s : State) (c : Caller) (name pages at : ℕ) (gs : List Guest) (good : Bool) (m : List ℕ) where
+  checked : (r : Reply) (m' : List ℕ) → at ≡ callerPlace gs (c .guest) → gs ≡ s .guests → at < 8 → good ≡ goodName name → not good ≡ false → (pages ≡ 0 → ⊥) → pages ≤ 512
+      → MadeBy (create s (c .guest) name pages) r m m' → MadeBy (judge s (callOf c (Create name pages)) 0) r m m'
+  unfolding judge goodCaller enrols choose arguments checkAll perform
+  checked r m' e q l g ng p0 p1 inner =
+      goes r s _ _ _ m m' (rw (← q) (place-yes at gs (c .guest) e l))
+      (goes r s _ _ _ m m' (sym g ∙ not-false good ng)
+      (goes r s _ _ _ m m' (both-intro _ _ (le-leb 1 pages (omega arith)) (le-leb pages 512 p1)) inner))
+
+  pub create-named : (u : ℕ) → at ≡ callerPlace gs (c .guest) → gs ≡ s .guests → at < 8 → good ≡ goodName name → not good ≡ false → (pages ≡ 0 → ⊥) → pages ≤ 512
+      → u ≡ slotNamed (s .spaces) (c .guest) name → u < 32 → MadeBy (judge s (callOf c (Create name pages)) 0) (reply NameTaken s) m m
+  unfolding create
+  create-named u e q l g ng p0 p1 ue ul = checked (reply NameTaken s) m e q l g ng p0 p1 (stops s _ _ _ m (rw (← ue) (lt-leb 32 u ul)))
+
+  -- the allowance, read at the caller's place
+  allowance-is : at ≡ callerPlace gs (c .guest) → gs ≡ s .guests → at < 8 → getD gs at noGuest .allowance ≡ guestAt (s .guests) (c .guest) .allowance
+  allowance-is e q l = ap₂ (λ (x : List Guest) k. getD x k noGuest .allowance) q (place-is at gs (c .guest) e l)
+
+  pub create-full : (u n : ℕ) → at ≡ callerPlace gs (c .guest) → gs ≡ s .guests → at < 8 → good ≡ goodName name → not good ≡ false → (pages ≡ 0 → ⊥) → pages ≤ 512
+      → u ≡ slotNamed (s .spaces) (c .guest) name → 32 ≤ u → n ≡ dataSpaces (s .spaces) (c .guest) → n ≡ getD gs at noGuest .allowance
+      → MadeBy (judge s (callOf c (Create name pages)) 0) (reply AllowanceUsed s) m m
+  unfolding create
+  create-full u n e q l g ng p0 p1 ue ul ne nn =
+      checked (reply AllowanceUsed s) m e q l g ng p0 p1
+      (goes _ s _ _ _ m m (rw (← ue) (le-leb 32 u ul)) (stops s _ _ _ m (ap not (eq-eqb _ _ (sym ne ∙ nn ∙ allowance-is e q l)))))
+
+  pub create-done : (u n : ℕ) (r : Reply) (m' : List ℕ) → at ≡ callerPlace gs (c .guest) → gs ≡ s .guests → at < 8 → good ≡ goodName name → not good ≡ false → (pages ≡ 0 → ⊥) → pages ≤ 512
+      → u ≡ slotNamed (s .spaces) (c .guest) name → 32 ≤ u → n ≡ dataSpaces (s .spaces) (c .guest) → (n ≡ getD gs at noGuest .allowance → ⊥)
+      → MadeBy (making s (withGuests s gs) (c .guest) name pages) r m m' → MadeBy (judge s (callOf c (Create name pages)) 0) r m m'
+  unfolding create
+  create-done u n r m' e q l g ng p0 p1 ue ul ne nn inner =
+      checked r m' e q l g ng p0 p1
+      (goes r s _ _ _ m m' (rw (← ue) (le-leb 32 u ul))
+      (goes r s _ _ _ m m' (ap not (ne-eqb _ _ (λ z. nn (ne ∙ z ∙ sym (allowance-is e q l))))) (rw q at inner)))

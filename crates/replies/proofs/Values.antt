@@ -1,0 +1,109 @@
+-- Which text an outcome's value is, by what the line asked for, and a line put together. Assumes nothing.
+use Prim.Native.Nat.{ℕ}
+use mathlib.Core.List.{List, [], _∷_, _++_, append-assoc}
+use mathlib.Core.Path.{_≡_, refl, sym, _∙_}
+use denote.Enum.Declared.{tagOf}
+use types.Run.{OneOf, miss}
+use borrow.Author.Tests.{eq-eqb, ne-eqb}
+use Rattle.lists.proofs.Choice.{yes!, no! }
+use Rattle.model.specs.declared.Answer.{Answer}
+use Rattle.model.specs.declared.Call.{Call}
+use Rattle.model.specs.declared.Operation.{Operation}
+use Rattle.model.specs.declared.Operation.the-variants.{Enrol, Create, Destroy, Permit, Isolate, Query, Add, Remove, Load, Mode, Fetch, Store, Reset}
+use Rattle.model.specs.declared.Request.{Request}
+use Rattle.model.specs.declared.Request.the-variants as request
+use Rattle.model.specs.Answers.{number, value}
+use Rattle.model.specs.Session.{LineOutcome, decimal, hexText, dash, doneText, requestText, valueText, lineText}
+use Rattle.model.proofs.Operation as operation-cases
+use Rattle.model.proofs.Request as request-cases
+use Rattle.replies.specs.Wrote.{Wrote}
+use Rattle.replies.proofs.Writing.{wrote-more}
+
+-- the calls by their places in the enum: those that give a number, ENROL, CREATE, QUERY and ADD; and those that give nothing,
+-- all others but FETCH
+abbrev numbered : List ℕ
+numbered = 0 ∷ 1 ∷ 5 ∷ 6 ∷ []
+
+abbrev unshown : List ℕ
+unshown = 2 ∷ 3 ∷ 4 ∷ 7 ∷ 8 ∷ 9 ∷ 11 ∷ 12 ∷ []
+
+number-is : (o : Operation) (a : Answer) (m : List ℕ) → OneOf numbered (tagOf operation-cases.the-type o) → decimal (value a) ≡ doneText o a m
+unfolding doneText
+number-is (Enrol pages allowance share list asf) a m h = refl
+number-is (Create name pages) a m h = refl
+number-is (Destroy id) a m h = absurd (miss numbered 2 tt h)
+number-is (Permit id guest right) a m h = absurd (miss numbered 3 tt h)
+number-is (Isolate id) a m h = absurd (miss numbered 4 tt h)
+number-is (Query owner name) a m h = refl
+number-is (Add id right) a m h = refl
+number-is (Remove token) a m h = absurd (miss numbered 7 tt h)
+number-is (Load register value) a m h = absurd (miss numbered 8 tt h)
+number-is (Mode mode) a m h = absurd (miss numbered 9 tt h)
+number-is (Fetch register address) a m h = absurd (miss numbered 10 tt h)
+number-is (Store register address) a m h = absurd (miss numbered 11 tt h)
+number-is Reset a m h = absurd (miss numbered 12 tt h)
+
+none-is : (o : Operation) (a : Answer) (m : List ℕ) → OneOf unshown (tagOf operation-cases.the-type o) → dash ≡ doneText o a m
+unfolding doneText
+none-is (Enrol pages allowance share list asf) a m h = absurd (miss unshown 0 tt h)
+none-is (Create name pages) a m h = absurd (miss unshown 1 tt h)
+none-is (Destroy id) a m h = refl
+none-is (Permit id guest right) a m h = refl
+none-is (Isolate id) a m h = refl
+none-is (Query owner name) a m h = absurd (miss unshown 5 tt h)
+none-is (Add id right) a m h = absurd (miss unshown 6 tt h)
+none-is (Remove token) a m h = refl
+none-is (Load register value) a m h = refl
+none-is (Mode mode) a m h = refl
+none-is (Fetch register address) a m h = absurd (miss unshown 10 tt h)
+none-is (Store register address) a m h = refl
+none-is Reset a m h = refl
+
+module _ {o o₁ : List ℕ} {p q : ℕ} (x : Operation) (a : Answer) (m : List ℕ) where
+  pub number-done : {v : ℕ} → OneOf numbered (tagOf operation-cases.the-type x) → v ≡ value a → Wrote o p (decimal v) o₁ q → Wrote o p (doneText x a m) o₁ q
+  number-done h e w = rw (← number-is x a m h, ← e) w
+
+  pub bytes-done : {r d : ℕ} → x ≡ Fetch r d → Wrote o p (hexText m) o₁ q → Wrote o p (doneText x a m) o₁ q
+  unfolding doneText
+  bytes-done e w = rw e w
+
+  pub none-done : OneOf unshown (tagOf operation-cases.the-type x) → Wrote o p dash o₁ q → Wrote o p (doneText x a m) o₁ q
+  none-done h w = rw (← none-is x a m h) w
+
+-- a call, and what is no call
+abbrev outcome : Request → Answer → List ℕ → LineOutcome
+outcome r a m = record { request = r; answer = a; moved = m }
+
+none-asked : (r : Request) (a : Answer) (m : List ℕ) → OneOf (0 ∷ 2 ∷ []) (tagOf request-cases.the-type r) → dash ≡ requestText r a m
+unfolding requestText
+none-asked (request.Frames f) a m h = refl
+none-asked (request.Call k n) a m h = absurd (miss (0 ∷ 2 ∷ []) 1 tt h)
+none-asked request.NotRead a m h = refl
+
+module _ {o o₁ : List ℕ} {p q : ℕ} (r : Request) (a : Answer) (m : List ℕ) {n : ℕ} (e : n ≡ number a) where
+  pub refused-value : (n ≡ 0 → ⊥) → Wrote o p dash o₁ q → Wrote o p (valueText (outcome r a m)) o₁ q
+  unfolding valueText
+  refused-value f w = rw (no! (requestText r a m) dash (ne-eqb (number a) 0 (λ z. f (e ∙ z)))) w
+
+  pub no-call-value : n ≡ 0 → OneOf (0 ∷ 2 ∷ []) (tagOf request-cases.the-type r) → Wrote o p dash o₁ q → Wrote o p (valueText (outcome r a m)) o₁ q
+  unfolding valueText
+  no-call-value z h w = rw (yes! (requestText r a m) dash (eq-eqb (number a) 0 (sym e ∙ z)), ← none-asked r a m h) w
+
+  pub call-value : {k : Call} {l : ℕ} → n ≡ 0 → r ≡ request.Call k l → Wrote o p (doneText (k .operation) a m) o₁ q → Wrote o p (valueText (outcome r a m)) o₁ q
+  unfolding valueText requestText
+  call-value z c w = rw (yes! (requestText r a m) dash (eq-eqb (number a) 0 (sym e ∙ z)), c) w
+
+-- the parts of a line
+pub answer-done : {o o₁ o₂ o₃ : List ℕ} {p p₁ p₂ p₃ k : ℕ} (n : ℕ) (a : Answer) → k ≡ number a → Wrote o p (decimal n) o₁ p₁ → Wrote o₁ p₁ (32 ∷ []) o₂ p₂
+    → Wrote o₂ p₂ (decimal k) o₃ p₃ → Wrote o p (decimal n ++ (32 ∷ decimal (number a))) o₃ p₃
+answer-done n a e w₁ w₂ w₃ = rw (← e) (wrote-more w₁ (wrote-more w₂ w₃))
+
+pub end-done : {o o₁ o₂ o₃ : List ℕ} {p p₁ p₂ p₃ : ℕ} (r : Request) (a : Answer) (m : List ℕ) → Wrote o p (32 ∷ []) o₁ p₁ → Wrote o₁ p₁ (valueText (outcome r a m)) o₂ p₂
+    → Wrote o₂ p₂ (10 ∷ []) o₃ p₃ → Wrote o p (32 ∷ valueText (outcome r a m) ++ (10 ∷ [])) o₃ p₃
+end-done r a m w₁ w₂ w₃ = wrote-more w₁ (wrote-more w₂ w₃)
+
+pub line-done : {o o₁ o₂ : List ℕ} {p p₁ p₂ : ℕ} (n : ℕ) (r : Request) (a : Answer) (m : List ℕ) → Wrote o p (decimal n ++ (32 ∷ decimal (number a))) o₁ p₁
+    → Wrote o₁ p₁ (32 ∷ valueText (outcome r a m) ++ (10 ∷ [])) o₂ p₂ → Wrote o p (lineText n (outcome r a m)) o₂ p₂
+unfolding lineText
+line-done n r a m w₁ w₂ =
+    rw (append-assoc (decimal n) (32 ∷ decimal (number a)) (32 ∷ valueText (outcome r a m) ++ (10 ∷ []))) at (wrote-more w₁ w₂)

@@ -1,0 +1,121 @@
+-- What each test of the code says of the whole: where one fails the state is not sound, and the last one says whether it is.
+-- Assumes nothing.
+use Prim.Native.Nat.{ℕ, _+_, _*_, _<_}
+use mathlib.Core.Bool.{Bool, true, false, not}
+use mathlib.Core.List.{List}
+use mathlib.Core.Path.{_≡_, sym, _∙_}
+use lib.ListN.{getD}
+use borrow.Author.Tests.{not-false}
+use Rattle.lists.specs.Choice.{both}
+use Rattle.lists.proofs.Choice.{both-yes, both-no}
+use Rattle.lists.proofs.Rules.{test-no, test-yes}
+use Rattle.model.specs.declared.State.{State}
+use Rattle.model.specs.SoundTest.{sound, headTest, apartTest, spacesTest, guestsTest, permitsTest}
+use Rattle.sound.proofs.Entries.{entries-is}
+use Rattle.sound.proofs.Parts.{spaces-is, guests-is}
+use Rattle.sound.proofs.Permits.{permits-is, standing-is}
+use Rattle.sound.specs.Columns.{Filled, tagAt, slotsTest, Owners, Slots, guestsWith, numberAt, powerAt, Permits, standingsWith, aboveTest}
+use Rattle.sound.specs.Held.{Held}
+
+-- the tests passed so far
+pub record HeadPassed (s : State) : Type 0 where
+  pub held : Held s
+  pub head : headTest (s .frames) (s .next) ≡ true
+
+pub record SlotsPassed (s : State) : Type 0 where
+  pub before : HeadPassed s
+  pub slots : slotsTest (s .frames) (s .next) (s .guests) (s .spaces) ≡ true
+
+pub record SpacesPassed (s : State) : Type 0 where
+  pub before : SlotsPassed s
+  pub spaces : spacesTest (s .frames) (s .next) (s .guests) (s .spaces) ≡ true
+
+pub record GuestsPassed (s : State) : Type 0 where
+  pub before : SpacesPassed s
+  pub guests : guestsTest (s .spaces) (s .guests) (s .cpus) ≡ true
+
+pub record PermitsPassed (s : State) (ws : List ℕ) : Type 0 where
+  pub before : GuestsPassed s
+  pub ts : List ℕ
+  pub tags : Filled ts (tagAt (s .spaces)) 32
+  pub permits : permitsTest (s .guests) (s .spaces) (s .permits) ≡ true
+  pub powers : (u k : ℕ) → u < 32 → k < 8 → getD ws (u * 8 + k) 0 ≡ powerAt ts u k (numberAt (s .permits) (u * 8 + k))
+
+module _ (s : State) (r : Bool) where
+  module _ (e : r ≡ headTest (s .frames) (s .next)) where
+    pub head-no : not r ≡ true → false ≡ sound s
+    unfolding sound
+    head-no t = sym (both-no _ (test-no r _ e t))
+
+    pub head-yes : Held s → not r ≡ false → HeadPassed s
+    head-yes h t = record { held = h; head = test-yes r _ e t }
+
+  module _ (ts : List ℕ) (said : Slots r (s .frames) (s .next) (s .guests) (s .spaces) ts) where
+    pub slots-no : HeadPassed s → not r ≡ true → false ≡ sound s
+    unfolding sound
+    slots-no p t = sym (both-yes _ (p .head) ∙ both-no _ (sym (spaces-is _ _ _ _ (p .held .spaces)) ∙ both-no _ (test-no r _ (said .test) t)))
+
+    pub slots-yes : HeadPassed s → not r ≡ false → SlotsPassed s
+    slots-yes p t = record { before = p; slots = test-yes r _ (said .test) t }
+
+    pub tags-yes : not r ≡ false → Filled ts (tagAt (s .spaces)) 32
+    tags-yes t = said .column (not-false r t)
+
+    pub owners-yes : not r ≡ false → Owners ts
+    owners-yes t = said .owners (not-false r t)
+
+  module _ (e : r ≡ apartTest (s .spaces)) (p : SlotsPassed s) where
+    apart-is : r ≡ spacesTest (s .frames) (s .next) (s .guests) (s .spaces)
+    apart-is = e ∙ sym (both-yes _ (p .slots)) ∙ spaces-is _ _ _ _ (p .before .held .spaces)
+
+    pub apart-no : not r ≡ true → false ≡ sound s
+    unfolding sound
+    apart-no t = sym (both-yes _ (p .before .head) ∙ both-no _ (test-no r _ apart-is t))
+
+    pub apart-yes : not r ≡ false → SpacesPassed s
+    apart-yes t = record { before = p; spaces = test-yes r _ apart-is t }
+
+  module _ (ts : List ℕ) (e : r ≡ guestsWith ts (s .guests) (s .cpus)) (tags : Filled ts (tagAt (s .spaces)) 32) (p : SpacesPassed s) where
+    guests-said : r ≡ guestsTest (s .spaces) (s .guests) (s .cpus)
+    guests-said =
+        let h = p .before .before .held in
+        e ∙ guests-is (s .frames) (s .next) (s .guests) (s .spaces) (s .cpus) ts (p .before .slots) tags (h .guests) (h .cpus) (h .registers)
+
+    pub guests-no : not r ≡ true → false ≡ sound s
+    unfolding sound
+    guests-no t = sym (both-yes _ (p .before .before .head) ∙ both-yes _ (p .spaces) ∙ both-no _ (test-no r _ guests-said t))
+
+    pub guests-yes : not r ≡ false → GuestsPassed s
+    guests-yes t = record { before = p; guests = test-yes r _ guests-said t }
+
+  module _ (ts ws : List ℕ) (said : Permits r (s .guests) (s .permits) ts ws) (tags : Filled ts (tagAt (s .spaces)) 32) (p : GuestsPassed s) where
+    permits-said : r ≡ permitsTest (s .guests) (s .spaces) (s .permits)
+    permits-said =
+        let q = p .before .before in
+        said .test ∙ permits-is (s .frames) (s .next) (s .guests) (s .spaces) (s .permits) ts (q .slots) tags (q .before .held .permits)
+
+    pub permits-no : not r ≡ true → false ≡ sound s
+    unfolding sound
+    permits-no t = sym (both-yes _ (p .before .before .before .head) ∙ both-yes _ (p .before .spaces) ∙ both-yes _ (p .guests) ∙ both-no _ (test-no r _ permits-said t))
+
+    pub permits-yes : not r ≡ false → PermitsPassed s ws
+    permits-yes t = record { before = p; ts = ts; tags = tags; permits = test-yes r _ permits-said t; powers = said .table (not-false r t) }
+
+module _ (s : State) (r : Bool) (ws : List ℕ) (e : r ≡ standingsWith ws (s .entries)) (p : PermitsPassed s ws) where
+  last-is : both (standingsWith ws (s .entries)) (aboveTest (s .guests) (s .entries)) ≡ sound s
+  unfolding sound
+  last-is =
+      let q = p .before .before .before in
+      let h = q .before .held in
+      entries-is (s .guests) (s .spaces) (s .permits) (s .entries) ws (h .sequence)
+      (standing-is (s .frames) (s .next) (s .guests) (s .spaces) (s .permits) (p .ts) (q .slots) (p .tags) ws (p .permits) (p .powers)) (h .entries)
+      ∙ sym (both-yes _ (q .before .head) ∙ both-yes _ (p .before .before .spaces) ∙ both-yes _ (p .before .guests) ∙ both-yes _ (p .permits))
+
+  pub standings-no : not r ≡ true → false ≡ sound s
+  standings-no t = sym (sym last-is ∙ both-no _ (test-no r _ e t))
+
+  pub above-is : (x : Bool) → not r ≡ false → x ≡ aboveTest (s .guests) (s .entries) → x ≡ sound s
+  above-is x t d = d ∙ sym (both-yes _ (test-yes r _ e t)) ∙ last-is
+
+-- for search: what passed, test by test
+pub ruleset passed = (head-yes, slots-yes, tags-yes, apart-yes, guests-yes, permits-yes)

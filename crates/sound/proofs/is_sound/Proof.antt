@@ -1,0 +1,75 @@
+-- `sound::is_sound` meets its contract. Assumes nothing.
+use Rattle.sound.proofs.Held.{held}
+use Rattle.sound.proofs.Whole.{head-no, slots-no, apart-no, guests-no, permits-no, standings-no, above-is, owners-yes, passed}
+use Rattle.sound.specs.Held.{Held}
+use borrow.Author.Needs.{needs}
+use Rattle.sound.proofs.is_sound.Statement.{statement}
+use Rattle.sound.proofs.is_sound.Tie as tie
+
+held-at : (c : tie.Start) → Held (c .args .s)
+held-at c = held (c .args .s) _ (c .good .0)
+
+head-ok-requires : tie.Need-head-ok-requires
+head-ok-requires c κs = search needs
+
+returns : tie.Need-returns
+returns c = search head-no
+
+later-table-requires : tie.Need-later-table-requires
+later-table-requires c κs = search needs
+
+slots-ok-requires : tie.Need-slots-ok-requires
+slots-ok-requires c κs = search needs
+
+returns-2 : tie.Need-returns-2
+returns-2 c = search (slots-no, passed, held-at) depth 10
+
+apart-ok-requires : tie.Need-apart-ok-requires
+apart-ok-requires c κs = search needs
+
+returns-3 : tie.Need-returns-3
+returns-3 c = search (apart-no, passed, held-at) depth 10
+
+guests-ok-requires : tie.Need-guests-ok-requires
+guests-ok-requires c κs = search needs
+
+returns-4 : tie.Need-returns-4
+returns-4 c = search (guests-no, passed, held-at) depth 10
+
+permits-ok-requires : tie.Need-permits-ok-requires
+permits-ok-requires c κs = search (owners-yes, needs)
+
+returns-5 : tie.Need-returns-5
+returns-5 c = search (permits-no, passed, held-at) depth 10
+
+standings-ok-requires : tie.Need-standings-ok-requires
+standings-ok-requires c κs = search needs
+
+returns-6 : tie.Need-returns-6
+returns-6 c = search (standings-no, passed, held-at) depth 10
+
+above-ok-requires : tie.Need-above-ok-requires
+above-ok-requires c κs = search needs
+
+returns-7 : tie.Need-returns-7
+returns-7 c = search (above-is, passed, held-at) depth 10
+
+pub is-sound-spec : {M : Type 1} → statement M
+is-sound-spec =
+    tie.close
+    (tie.spec
+    head-ok-requires
+    returns
+    later-table-requires
+    slots-ok-requires
+    returns-2
+    apart-ok-requires
+    returns-3
+    guests-ok-requires
+    returns-4
+    permits-ok-requires
+    returns-5
+    standings-ok-requires
+    returns-6
+    above-ok-requires
+    returns-7)
