@@ -1,0 +1,1 @@
+// The session over input that comes in pieces.
