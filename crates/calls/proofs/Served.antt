@@ -25,7 +25,7 @@ use Rattle.making.specs.Made.{MadeBy}
 use Rattle.calls.specs.Served.{Served}
 
 -- which calls move no byte of the buffer, so that its length says nothing
-abbrev Unmoving : Operation → Type 0
+abbrev pub Unmoving : Operation → Type 0
 Unmoving (Fetch register address) = ⊥
 Unmoving (Store register address) = ⊥
 Unmoving (Enrol pages allowance share list asf) = Unit {0}
@@ -41,7 +41,7 @@ Unmoving (Mode m) = Unit {0}
 Unmoving Reset = Unit {0}
 
 -- which calls leave the tables
-abbrev KeepsTables : Operation → Type 0
+abbrev pub KeepsTables : Operation → Type 0
 KeepsTables (Fetch register address) = Unit {0}
 KeepsTables (Store register address) = Unit {0}
 KeepsTables (Query owner name) = Unit {0}
@@ -57,7 +57,7 @@ KeepsTables (Mode m) = ⊥
 KeepsTables Reset = ⊥
 
 -- which calls make a space
-abbrev Makes : Operation → Type 0
+abbrev pub Makes : Operation → Type 0
 Makes (Enrol pages allowance share list asf) = Unit {0}
 Makes (Create name pages) = Unit {0}
 Makes (Fetch register address) = ⊥
@@ -144,7 +144,7 @@ module _ (s : State) (c : Caller) where
 
   module _ (k : Operation) (m b : List ℕ) where
     -- tables alone
-    still : Unmoving k → KeepsScratch k → KeepsBuffer k → (r : Reply) → r ≡ replied (judge s (callOf c k) 0) → Served s (callOf c k) r m b m b
+    pub still : Unmoving k → KeepsScratch k → KeepsBuffer k → (r : Reply) → r ≡ replied (judge s (callOf c k) 0) → Served s (callOf c k) r m b m b
     still u ks kb r e = record {
       reply = e ∙ ap (λ d. replied d) (sym (any-length k (length b) u));
       scratch = sym (scratch-kept s c m b k ks);
@@ -152,7 +152,7 @@ module _ (s : State) (c : Caller) where
     }
 
     -- a space made: its frames cleared
-    made : Makes k → Unmoving k → KeepsBuffer k → (r : Reply) (m' : List ℕ) → MadeBy (judge s (callOf c k) 0) r m m' → Served s (callOf c k) r m b m' b
+    pub made : Makes k → Unmoving k → KeepsBuffer k → (r : Reply) (m' : List ℕ) → MadeBy (judge s (callOf c k) 0) r m m' → Served s (callOf c k) r m b m' b
     unfolding scratchJudged
     made mk u kb r m' e = record {
       reply = e .reply ∙ ap (λ d. replied d) (sym (any-length k (length b) u));
@@ -161,7 +161,7 @@ module _ (s : State) (c : Caller) where
     }
 
     -- bytes moved, tables as they were
-    fetched : KeepsTables k → KeepsScratch k → (a : Answer) (b' : List ℕ) → a ≡ judge s (callOf c k) (length b) .answer → b' ≡ bufferJudged s (callOf c k) m b
+    pub fetched : KeepsTables k → KeepsScratch k → (a : Answer) (b' : List ℕ) → a ≡ judge s (callOf c k) (length b) .answer → b' ≡ bufferJudged s (callOf c k) m b
         → Served s (callOf c k) (reply a s) m b m b'
     fetched kt ks a b' e f = record {
       reply = replied-kept k (length b) a kt e;
@@ -169,7 +169,7 @@ module _ (s : State) (c : Caller) where
       buffer = f;
     }
 
-    stored : KeepsTables k → KeepsBuffer k → (a : Answer) (m' : List ℕ) → a ≡ judge s (callOf c k) (length b) .answer → m' ≡ scratchJudged s (callOf c k) m b
+    pub stored : KeepsTables k → KeepsBuffer k → (a : Answer) (m' : List ℕ) → a ≡ judge s (callOf c k) (length b) .answer → m' ≡ scratchJudged s (callOf c k) m b
         → Served s (callOf c k) (reply a s) m b m' b
     stored kt kb a m' e f = record {
       reply = replied-kept k (length b) a kt e;
@@ -178,7 +178,7 @@ module _ (s : State) (c : Caller) where
     }
 
     -- nothing changed, an answer alone
-    asked : Unmoving k → KeepsTables k → KeepsScratch k → KeepsBuffer k → (a : Answer) → a ≡ judge s (callOf c k) 0 .answer → Served s (callOf c k) (reply a s) m b m b
+    pub asked : Unmoving k → KeepsTables k → KeepsScratch k → KeepsBuffer k → (a : Answer) → a ≡ judge s (callOf c k) 0 .answer → Served s (callOf c k) (reply a s) m b m b
     asked u kt ks kb a e = still u ks kb (reply a s) (replied-kept k 0 a kt e)
 
 -- the same, call by call, of a call whose operation is known

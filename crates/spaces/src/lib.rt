@@ -1,12 +1,40 @@
 // The space manager's public face. No function asks anything of its caller: check 1, then a call of the inner layer, which is
-// for callers that hold a sound state. The contract is the model's step.
+// for callers that hold a sound state. The contract of each is the model's step on the given tables, scratch and buffer.
+ghost use mathlib.Core.List.{[]};
 ghost use mathlib.Core.Path.{_≡_};
+ghost use Rattle.model.specs.Answers.{number as numberOf, value as valueOf};
 ghost use Rattle.model.specs.Calls.{ready};
+ghost use Rattle.model.specs.Fresh.{fresh as freshOf};
 ghost use Rattle.model.specs.Promise.{Promise, stepOf};
+ghost use Rattle.model.specs.Replies.{reply, callOf};
+ghost use Rattle.model.specs.declared.Answer.the-variants.{Unsound};
+ghost use Rattle.model.specs.declared.Operation.the-variants.{Enrol, Create, Destroy, Permit, Isolate, Query, Add, Remove, Load, Mode, Fetch, Store, Reset};
 use model::Answer;
 use model::Call;
+use model::Caller;
 use model::Reply;
+use model::Right;
 use model::State;
+
+// The paper's number of an answer, and its value.
+pub fn number(a: Answer) -> u32
+    ensures { λ r. ⌜ r ≡ numberOf a ⌝ }
+{
+    answers::number(a)
+}
+
+pub fn value(a: Answer) -> u32
+    ensures { λ r. ⌜ r ≡ valueOf a ⌝ }
+{
+    answers::value(a)
+}
+
+// The fresh state for a number of frames.
+pub fn fresh(frames: u32) -> Reply
+    ensures { λ r. ⌜ r ≡ freshOf frames ⌝ }
+{
+    fresh::fresh(frames)
+}
 
 // Check 1: the state is sound and scratch has F x 4,096 bytes.
 fn is_ready(s: State, room: usize) -> bool
@@ -18,15 +46,163 @@ fn is_ready(s: State, room: usize) -> bool
     room == (s.frames as usize) * 4096
 }
 
-// Any of the thirteen calls, with any state, scratch and buffer.
+fn unsound(s: State) -> Reply
+    ensures { λ r. ⌜ r ≡ reply Unsound s ⌝ }
+{
+    Reply {
+        answer: Answer::Unsound,
+        state: s,
+    }
+}
+
+pub fn enrol(
+    s: State,
+    scratch: &mut [u8],
+    caller: Caller,
+    pages: u32,
+    allowance: u32,
+    share: u32,
+    list: u32,
+    asf: u32,
+) -> Reply
+    ensures { λ r. ⌜ Promise (stepOf s (now (scratch .entry)) (callOf caller (Enrol pages allowance share list asf)) []) (r .answer) (r .state) (now (scratch .exit)) [] ⌝ }
+{
+    if !is_ready(s, scratch.len()) {
+        return unsound(s);
+    }
+    making::enrol(s, scratch, caller, pages, allowance, share, list, asf)
+}
+
+pub fn create(s: State, scratch: &mut [u8], caller: Caller, name: u64, pages: u32) -> Reply
+    ensures { λ r. ⌜ Promise (stepOf s (now (scratch .entry)) (callOf caller (Create name pages)) []) (r .answer) (r .state) (now (scratch .exit)) [] ⌝ }
+{
+    if !is_ready(s, scratch.len()) {
+        return unsound(s);
+    }
+    making::create(s, scratch, caller, name, pages)
+}
+
+pub fn destroy(s: State, scratch: &[u8], caller: Caller, id: u32) -> Reply
+    ensures { λ r. ⌜ Promise (stepOf s (now (scratch .entry)) (callOf caller (Destroy id)) []) (r .answer) (r .state) (now (scratch .entry)) [] ⌝ }
+{
+    if !is_ready(s, scratch.len()) {
+        return unsound(s);
+    }
+    withdrawing::destroy(s, caller, id)
+}
+
+pub fn permit(s: State, scratch: &[u8], caller: Caller, id: u32, guest: u32, right: Right) -> Reply
+    ensures { λ r. ⌜ Promise (stepOf s (now (scratch .entry)) (callOf caller (Permit id guest right)) []) (r .answer) (r .state) (now (scratch .entry)) [] ⌝ }
+{
+    if !is_ready(s, scratch.len()) {
+        return unsound(s);
+    }
+    rights::permit(s, caller, id, guest, right)
+}
+
+pub fn isolate(s: State, scratch: &[u8], caller: Caller, id: u32) -> Reply
+    ensures { λ r. ⌜ Promise (stepOf s (now (scratch .entry)) (callOf caller (Isolate id)) []) (r .answer) (r .state) (now (scratch .entry)) [] ⌝ }
+{
+    if !is_ready(s, scratch.len()) {
+        return unsound(s);
+    }
+    withdrawing::isolate(s, caller, id)
+}
+
+// QUERY changes nothing: the state is not returned.
+pub fn query(s: State, scratch: &[u8], caller: Caller, owner: u32, name: u64) -> Answer
+    ensures { λ r. ⌜ Promise (stepOf s (now (scratch .entry)) (callOf caller (Query owner name)) []) r s (now (scratch .entry)) [] ⌝ }
+{
+    if !is_ready(s, scratch.len()) {
+        return Answer::Unsound;
+    }
+    rights::query(s, caller, owner, name)
+}
+
+pub fn add(s: State, scratch: &[u8], caller: Caller, id: u32, right: Right) -> Reply
+    ensures { λ r. ⌜ Promise (stepOf s (now (scratch .entry)) (callOf caller (Add id right)) []) (r .answer) (r .state) (now (scratch .entry)) [] ⌝ }
+{
+    if !is_ready(s, scratch.len()) {
+        return unsound(s);
+    }
+    rights::add(s, caller, id, right)
+}
+
+pub fn remove(s: State, scratch: &[u8], caller: Caller, token: u32) -> Reply
+    ensures { λ r. ⌜ Promise (stepOf s (now (scratch .entry)) (callOf caller (Remove token)) []) (r .answer) (r .state) (now (scratch .entry)) [] ⌝ }
+{
+    if !is_ready(s, scratch.len()) {
+        return unsound(s);
+    }
+    rights::remove(s, caller, token)
+}
+
+pub fn load(s: State, scratch: &[u8], caller: Caller, register: u32, value: u32) -> Reply
+    ensures { λ r. ⌜ Promise (stepOf s (now (scratch .entry)) (callOf caller (Load register value)) []) (r .answer) (r .state) (now (scratch .entry)) [] ⌝ }
+{
+    if !is_ready(s, scratch.len()) {
+        return unsound(s);
+    }
+    access::load(s, caller, register, value)
+}
+
+pub fn mode(s: State, scratch: &[u8], caller: Caller, mode: u32) -> Reply
+    ensures { λ r. ⌜ Promise (stepOf s (now (scratch .entry)) (callOf caller (Mode mode)) []) (r .answer) (r .state) (now (scratch .entry)) [] ⌝ }
+{
+    if !is_ready(s, scratch.len()) {
+        return unsound(s);
+    }
+    access::mode(s, caller, mode)
+}
+
+// FETCH and STORE leave the tables: the state is not returned.
+pub fn fetch(
+    s: State,
+    scratch: &[u8],
+    caller: Caller,
+    register: u32,
+    address: u32,
+    buffer: &mut [u8],
+) -> Answer
+    ensures { λ r. ⌜ Promise (stepOf s (now (scratch .entry)) (callOf caller (Fetch register address)) (now (buffer .entry))) r s (now (scratch .entry)) (now (buffer .exit)) ⌝ }
+{
+    if !is_ready(s, scratch.len()) {
+        return Answer::Unsound;
+    }
+    access::fetch(s, scratch, caller, register, address, buffer)
+}
+
+pub fn store(
+    s: State,
+    scratch: &mut [u8],
+    caller: Caller,
+    register: u32,
+    address: u32,
+    bytes: &[u8],
+) -> Answer
+    ensures { λ r. ⌜ Promise (stepOf s (now (scratch .entry)) (callOf caller (Store register address)) (now (bytes .entry))) r s (now (scratch .exit)) (now (bytes .entry)) ⌝ }
+{
+    if !is_ready(s, scratch.len()) {
+        return Answer::Unsound;
+    }
+    access::store(s, scratch, caller, register, address, bytes)
+}
+
+pub fn reset(s: State, scratch: &[u8], caller: Caller) -> Reply
+    ensures { λ r. ⌜ Promise (stepOf s (now (scratch .entry)) (callOf caller Reset) []) (r .answer) (r .state) (now (scratch .entry)) [] ⌝ }
+{
+    if !is_ready(s, scratch.len()) {
+        return unsound(s);
+    }
+    withdrawing::reset(s, caller)
+}
+
+// Any of the thirteen as a value.
 pub fn serve(s: State, scratch: &mut [u8], call: Call, buffer: &mut [u8]) -> Reply
     ensures { λ r. ⌜ Promise (stepOf s (now (scratch .entry)) call (now (buffer .entry))) (r .answer) (r .state) (now (scratch .exit)) (now (buffer .exit)) ⌝ }
 {
     if !is_ready(s, scratch.len()) {
-        return Reply {
-            answer: Answer::Unsound,
-            state: s,
-        };
+        return unsound(s);
     }
     calls::serve(s, scratch, call, buffer)
 }

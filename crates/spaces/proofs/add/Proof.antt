@@ -1,0 +1,24 @@
+-- `spaces::add` meets its contract. Assumes nothing.
+use borrow.Author.Needs.{needs}
+use Rattle.lists.proofs.Rules.{tests}
+use Rattle.spaces.proofs.Ready.{ready-sound, refuses-with, changes-tables}
+use Rattle.spaces.proofs.add.Statement.{statement}
+use Rattle.spaces.proofs.add.Tie as tie
+
+is-ready-requires : tie.Need-is-ready-requires
+is-ready-requires c κs = search needs
+
+unsound-requires : tie.Need-unsound-requires
+unsound-requires c κs = search needs
+
+returns : tie.Need-returns
+returns c = search (refuses-with, tests)
+
+add-requires : tie.Need-add-requires
+add-requires c κs = search (needs, tests, ready-sound)
+
+returns-2 : tie.Need-returns-2
+returns-2 c = search (changes-tables, tests)
+
+pub add-spec : {M : Type 1} → statement M
+add-spec = tie.close (tie.spec is-ready-requires unsound-requires returns add-requires returns-2)

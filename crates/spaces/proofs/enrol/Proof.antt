@@ -1,0 +1,27 @@
+-- `spaces::enrol` meets its contract. Assumes nothing.
+use borrow.Author.Needs.{needs}
+use Rattle.lists.proofs.Rules.{tests}
+use Rattle.spaces.proofs.Ready.{ready-sound, ready-room, refuses-with, makes}
+use Rattle.spaces.proofs.enrol.Statement.{statement}
+use Rattle.spaces.proofs.enrol.Tie as tie
+
+is-ready-requires : tie.Need-is-ready-requires
+is-ready-requires c κs = search needs
+
+unsound-requires : tie.Need-unsound-requires
+unsound-requires c κs = search needs
+
+returns : tie.Need-returns
+returns c = search (refuses-with, tests)
+
+enrol-requires : tie.Need-enrol-requires
+enrol-requires c κs = search (needs, tests, ready-sound, ready-room)
+
+same-length : tie.Need-same-length
+same-length c = search needs
+
+returns-2 : tie.Need-returns-2
+returns-2 c = search (makes, tests)
+
+pub enrol-spec : {M : Type 1} → statement M
+enrol-spec = tie.close (tie.spec is-ready-requires unsound-requires returns enrol-requires same-length returns-2)

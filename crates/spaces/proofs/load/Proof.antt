@@ -1,0 +1,24 @@
+-- `spaces::load` meets its contract. Assumes nothing.
+use borrow.Author.Needs.{needs}
+use Rattle.lists.proofs.Rules.{tests}
+use Rattle.spaces.proofs.Ready.{ready-sound, refuses-with, changes-tables}
+use Rattle.spaces.proofs.load.Statement.{statement}
+use Rattle.spaces.proofs.load.Tie as tie
+
+is-ready-requires : tie.Need-is-ready-requires
+is-ready-requires c κs = search needs
+
+unsound-requires : tie.Need-unsound-requires
+unsound-requires c κs = search needs
+
+returns : tie.Need-returns
+returns c = search (refuses-with, tests)
+
+load-requires : tie.Need-load-requires
+load-requires c κs = search (needs, tests, ready-sound)
+
+returns-2 : tie.Need-returns-2
+returns-2 c = search (changes-tables, tests)
+
+pub load-spec : {M : Type 1} → statement M
+load-spec = tie.close (tie.spec is-ready-requires unsound-requires returns load-requires returns-2)

@@ -1,0 +1,24 @@
+-- `spaces::permit` meets its contract. Assumes nothing.
+use borrow.Author.Needs.{needs}
+use Rattle.lists.proofs.Rules.{tests}
+use Rattle.spaces.proofs.Ready.{ready-sound, refuses-with, changes-tables}
+use Rattle.spaces.proofs.permit.Statement.{statement}
+use Rattle.spaces.proofs.permit.Tie as tie
+
+is-ready-requires : tie.Need-is-ready-requires
+is-ready-requires c κs = search needs
+
+unsound-requires : tie.Need-unsound-requires
+unsound-requires c κs = search needs
+
+returns : tie.Need-returns
+returns c = search (refuses-with, tests)
+
+permit-requires : tie.Need-permit-requires
+permit-requires c κs = search (needs, tests, ready-sound)
+
+returns-2 : tie.Need-returns-2
+returns-2 c = search (changes-tables, tests)
+
+pub permit-spec : {M : Type 1} → statement M
+permit-spec = tie.close (tie.spec is-ready-requires unsound-requires returns permit-requires returns-2)

@@ -1,0 +1,24 @@
+-- `spaces::remove` meets its contract. Assumes nothing.
+use borrow.Author.Needs.{needs}
+use Rattle.lists.proofs.Rules.{tests}
+use Rattle.spaces.proofs.Ready.{ready-sound, refuses-with, changes-tables}
+use Rattle.spaces.proofs.remove.Statement.{statement}
+use Rattle.spaces.proofs.remove.Tie as tie
+
+is-ready-requires : tie.Need-is-ready-requires
+is-ready-requires c κs = search needs
+
+unsound-requires : tie.Need-unsound-requires
+unsound-requires c κs = search needs
+
+returns : tie.Need-returns
+returns c = search (refuses-with, tests)
+
+remove-requires : tie.Need-remove-requires
+remove-requires c κs = search (needs, tests, ready-sound)
+
+returns-2 : tie.Need-returns-2
+returns-2 c = search (changes-tables, tests)
+
+pub remove-spec : {M : Type 1} → statement M
+remove-spec = tie.close (tie.spec is-ready-requires unsound-requires returns remove-requires returns-2)

@@ -1,0 +1,24 @@
+-- `spaces::reset` meets its contract. Assumes nothing.
+use borrow.Author.Needs.{needs}
+use Rattle.lists.proofs.Rules.{tests}
+use Rattle.spaces.proofs.Ready.{ready-sound, refuses-with, changes-tables}
+use Rattle.spaces.proofs.reset.Statement.{statement}
+use Rattle.spaces.proofs.reset.Tie as tie
+
+is-ready-requires : tie.Need-is-ready-requires
+is-ready-requires c κs = search needs
+
+unsound-requires : tie.Need-unsound-requires
+unsound-requires c κs = search needs
+
+returns : tie.Need-returns
+returns c = search (refuses-with, tests)
+
+reset-requires : tie.Need-reset-requires
+reset-requires c κs = search (needs, tests, ready-sound)
+
+returns-2 : tie.Need-returns-2
+returns-2 c = search (changes-tables, tests)
+
+pub reset-spec : {M : Type 1} → statement M
+reset-spec = tie.close (tie.spec is-ready-requires unsound-requires returns reset-requires returns-2)
