@@ -15,3 +15,4 @@ pub mod Rising
 pub mod Grounded
 pub mod Records
 pub mod InstanceRecord
+pub mod Kept

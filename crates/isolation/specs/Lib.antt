@@ -11,3 +11,4 @@ pub mod Ground
 pub mod Agrees
 -- Both halves on concrete things
 pub mod Instance
+pub mod Kept
