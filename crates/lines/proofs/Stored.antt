@@ -7,14 +7,16 @@ use native.Mathlib.Omega.{arith}
 use lib.Dec.{leb}
 use lib.ListN.{length, getD, take, drop, length-drop}
 use lib.Seq.{take-all}
+use borrow.Author.Tests.{leb-true}
 use Rattle.lists.specs.Bytes.{over}
 use Rattle.lists.specs.Choice.{choose}
-use Rattle.lists.proofs.Choice.{true-false, both-right}
+use Rattle.lists.proofs.Choice.{true-false, both-left, both-right}
 use Rattle.model.specs.declared.Request.the-variants.{NotRead}
 use Rattle.model.specs.Lines.{fields, is, hexDigits, hexField, hexBytes, number, hex, fieldOf, Values, values, unread, readFields, Form, forms, at, sameBytes, makeBy, readBy, readAll, readLine, dataOf}
 use Rattle.lines.specs.Fields.{later}
 use Rattle.lines.specs.Stores.{isStore, stores, lengthOf}
 use Rattle.lines.proofs.Cuts.{last-field}
+use Rattle.lines.proofs.Decoding.{bytes-length}
 use Rattle.lines.proofs.Values.{spelt-is, first-of, none-of}
 
 -- the fields after the name of a store: three, and n bytes of data
@@ -89,6 +91,28 @@ five-fields l y = by-length (leb (length l) 600) y
     by-length : (b : Bool) → stores (choose b (readAll (fields l)) NotRead) ≡ true → Five (fields l) (lengthOf (choose b (readAll (fields l)) NotRead))
     by-length true y = by-fields (fields l) y
     by-length false y = true-false y refl
+
+-- its data are as many bytes as the request says, and at most 257
+hex-length : (f : List ℕ) (n : ℕ) → hexField f ≡ is n → (length (hexBytes f) ≡ n) × (n ≤ 257)
+unfolding hexField
+hex-length f n e =
+    let s = spelt-is _ (length f / 2) n e in
+    let l = leb-true (length f) 514 (both-right _ _ (both-left _ _ (s .0))) in
+    (bytes-length f ∙ s .1, omega (arith, s .1))
+
+data-hex : (l : List ℕ) → stores (readLine l) ≡ true → (length (dataOf l) ≡ lengthOf (readLine l)) × (lengthOf (readLine l) ≤ 257)
+unfolding dataOf
+data-hex l y =
+    let f = five-fields l y in
+    let e : getD (fields l) 4 [] ≡ f .store .hexes = ap (λ x. getD x 4 []) (f .are ∙ ap (λ x. f .word ∷ x) (f .store .are)) in
+    let h = hex-length (f .store .hexes) (lengthOf (readLine l)) (f .store .count) in
+    (ap (λ x. length (hexBytes x)) e ∙ h .0, h .1)
+
+pub data-length : (l : List ℕ) → stores (readLine l) ≡ true → length (dataOf l) ≡ lengthOf (readLine l)
+data-length l y = data-hex l y .0
+
+pub data-most : (l : List ℕ) → stores (readLine l) ≡ true → lengthOf (readLine l) ≤ 257
+data-most l y = data-hex l y .1
 
 -- Where each field after the name starts, up to the data, which are all that is left of the line.
 module _ (l : List ℕ) (caller register address start : ℕ) (y : stores (readLine l) ≡ true)

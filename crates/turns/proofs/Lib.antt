@@ -1,0 +1,4 @@
+pub mod Replied
+pub mod Filled
+pub mod Usable
+pub mod Carried

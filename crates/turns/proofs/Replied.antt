@@ -1,0 +1,87 @@
+-- Turns that write a reply and change no byte of scratch: lines that are not read, and FRAMES. Assumes nothing.
+use Prim.Native.Nat.{ℕ}
+use mathlib.Core.Bool.{Bool, true, false, not}
+use mathlib.Core.List.{List, []}
+use mathlib.Core.Path.{_≡_, sym, ap, _∙_}
+use borrow.Author.Tests.{not-true, not-false}
+use lib.Dec.{leb}
+use lib.ListN.{length}
+use Rattle.lists.specs.Choice.{both}
+use Rattle.lists.proofs.Choice.{yes!, no! }
+use Rattle.model.specs.declared.Answer.{Answer}
+use Rattle.model.specs.declared.Answer.the-variants.{Done, Limit, LineNotRead}
+use Rattle.model.specs.declared.Call.{Call}
+use Rattle.model.specs.declared.Kind.the-variants.{Frames as FrameCount}
+use Rattle.model.specs.declared.Request.{Request}
+use Rattle.model.specs.declared.Request.the-variants.{Frames, Call as Asked, NotRead}
+use Rattle.model.specs.declared.State.{State}
+use Rattle.model.specs.Fresh.{emptyTables}
+use Rattle.model.specs.Lines.{readLine}
+use Rattle.model.specs.Session.{LineOutcome, Turn, turn, framesTurn, requestTurn, lineTurn}
+use Rattle.turns.specs.declared.Host.{Host}
+use Rattle.turns.specs.Taken.{sessionOf, usable, Said, Taken}
+
+abbrev pub outcomeOf : Request → Answer → LineOutcome
+outcomeOf r a = record { request = r; answer = a; moved = [] }
+
+-- a reply from a host that knows whether check 1 holds is the turn that says it and leaves the session where the host stands
+pub said-taken : (h h' : Host) (m out out' : List ℕ) (number : ℕ) (r : Request) (a : Answer) (t : Turn)
+    → h .ready ≡ usable (h .state) (length m) → Said h number (outcomeOf r a) out h' out' → t ≡ turn r a [] (sessionOf h m)
+    → Taken t number out (h .at) h' m out'
+said-taken h h' m out out' number r a t k d e =
+    rw e
+    (record {
+      session = ap (λ x. sessionOf x m) (d .same);
+      reply = d .reply;
+      ready = ap (λ x. x .ready) (d .same) ∙ k ∙ sym (ap (λ x. usable (x .state) (length m)) (d .same));
+    })
+
+module _ (h h' : Host) (m out out' : List ℕ) (number count : ℕ) where
+  -- a FRAMES after a done one
+  pub frames-again : h .ready ≡ usable (h .state) (length m) → h .begun ≡ true → Said h number (outcomeOf (Frames count) LineNotRead) out h' out'
+      → Taken (framesTurn (sessionOf h m) count) number out (h .at) h' m out'
+  unfolding framesTurn
+  frames-again k b d = said-taken h h' m out out' number (Frames count) LineNotRead _ k d (yes! _ _ b)
+
+  -- a number of frames that no session has
+  pub frames-out : (x : Bool) → h .ready ≡ usable (h .state) (length m) → h .begun ≡ false → x ≡ both (leb 1 count) (leb count 8) → not x ≡ true
+      → Said h number (outcomeOf (Frames count) (Limit FrameCount 1)) out h' out' → Taken (framesTurn (sessionOf h m) count) number out (h .at) h' m out'
+  unfolding framesTurn
+  frames-out x k b e f d = said-taken h h' m out out' number (Frames count) (Limit FrameCount 1) _ k d (no! _ _ b ∙ no! _ _ (sym e ∙ not-true x f))
+
+  -- a FRAMES that is done: the fresh state, tested
+  pub frames-done : (x y : Bool) (s : State) → h .begun ≡ false → x ≡ both (leb 1 count) (leb count 8) → not x ≡ false
+      → s ≡ emptyTables count 1 → y ≡ usable s (length m)
+      → Said (record { begun = true; ready = y; at = h .at; state = s }) number (outcomeOf (Frames count) (Done 0)) out h' out'
+      → Taken (framesTurn (sessionOf h m) count) number out (h .at) h' m out'
+  unfolding framesTurn
+  frames-done x y s b e f q k d =
+      said-taken (record { begun = true; ready = y; at = h .at; state = s }) h' m out out' number (Frames count) (Done 0) _ k d
+      (no! _ _ b ∙ yes! _ _ (sym e ∙ not-false x f) ∙ ap (λ t. turn (Frames count) (Done 0) [] (record { begun = true; tables = t; scratch = m })) (sym q))
+
+-- What a line asks for, as the code has read it.
+module _ (h h' : Host) (m l out out' : List ℕ) (number : ℕ) (x : Request) (e : x ≡ readLine l) where
+  -- FRAMES
+  pub frames-taken : (count : ℕ) → x ≡ Frames count → Taken (framesTurn (sessionOf h m) count) number out (h .at) h' m out'
+      → Taken (lineTurn (sessionOf h m) l) number out (h .at) h' m out'
+  unfolding requestTurn
+  frames-taken count q t = rw (sym e ∙ q) t
+
+  -- a call before a done FRAMES
+  pub early-taken : (k : Call) (size : ℕ) → x ≡ Asked k size → not (h .begun) ≡ true → h .ready ≡ usable (h .state) (length m)
+      → Said h number (outcomeOf (Asked k size) LineNotRead) out h' out' → Taken (lineTurn (sessionOf h m) l) number out (h .at) h' m out'
+  unfolding requestTurn
+  early-taken k size q b u d =
+      said-taken h h' m out out' number (Asked k size) LineNotRead _ u d (ap (requestTurn (sessionOf h m) l) (sym e ∙ q) ∙ no! _ _ (not-true (h .begun) b))
+
+  -- a line that is not read
+  pub unread-taken : x ≡ NotRead → h .ready ≡ usable (h .state) (length m)
+      → Said h number (outcomeOf x LineNotRead) out h' out' → Taken (lineTurn (sessionOf h m) l) number out (h .at) h' m out'
+  unfolding requestTurn
+  unread-taken q u d =
+      said-taken h h' m out out' number x LineNotRead _ u d
+      (ap (requestTurn (sessionOf h m) l) (sym e ∙ q) ∙ ap (λ y. turn y LineNotRead [] (sessionOf h m)) (sym q))
+
+-- the line is the call that was read
+pub line-asks : (l : List ℕ) (x y : Request) → x ≡ readLine l → x ≡ y → readLine l ≡ y
+line-asks l x y e q = sym e ∙ q

@@ -1,0 +1,36 @@
+-- What becomes of one line: the session after it, and its reply.
+use Prim.Native.Nat.{ℕ, _*_}
+use mathlib.Core.Bool.{Bool}
+use mathlib.Core.List.{List}
+use mathlib.Core.Path.{_≡_}
+use lib.Dec.{leb}
+use Rattle.lists.specs.Choice.{both}
+use lib.ListN.{length}
+use Rattle.model.specs.declared.State.{State}
+use Rattle.model.specs.Session.{Session, LineOutcome, Turn, lineText}
+use Rattle.model.specs.Sizes.{frameSize}
+use Rattle.model.specs.SoundTest.{sound}
+use Rattle.replies.specs.Wrote.{Wrote}
+use Rattle.turns.specs.declared.Host.{Host}
+
+-- where the host stands in a session
+abbrev pub sessionOf : Host → (scratch : List ℕ) → Session
+sessionOf h m = record { begun = h .begun; tables = h .state; scratch = m }
+
+-- check 1 with the part of the lent scratch that is the machine's
+abbrev pub usable : State → (room : ℕ) → Bool
+usable s room = both (sound s) (leb (s .frames * frameSize) room)
+
+-- a reply has been written, and nothing else has changed
+abbrev pub withAt : Host → ℕ → Host
+withAt h a = record { begun = h .begun; ready = h .ready; at = a; state = h .state }
+
+pub record Said (h : Host) (number : ℕ) (o : LineOutcome) (out : List ℕ) (h' : Host) (out' : List ℕ) : Type 0 where
+  pub same : h' ≡ withAt h (h' .at)
+  pub reply : Wrote out (h .at) (lineText number o) out' (h' .at)
+
+-- the turn t has been taken: the host and scratch are those after it, its reply stands in `out`, and the host knows whether check 1 holds
+pub record Taken (t : Turn) (number : ℕ) (out : List ℕ) (place : ℕ) (h : Host) (m out' : List ℕ) : Type 0 where
+  pub session : sessionOf h m ≡ t .after
+  pub reply : Wrote out place (lineText number (t .outcome)) out' (h .at)
+  pub ready : h .ready ≡ usable (h .state) (length m)
