@@ -1,3 +1,9 @@
 pub mod Cut
+pub mod Ending
+pub mod Feeding
+pub mod Held
 pub mod Pieces
 pub mod Served
+pub mod Stopped
+pub mod Turned
+pub mod Whole

@@ -1,10 +1,11 @@
 -- The session of the model (Session) as a fold over input bytes, so that input may come in pieces. It is proved equal to the
 -- session by lines (proofs/Pieces).
-use Prim.Native.Nat.{ℕ}
+use Prim.Native.Nat.{ℕ, _-_}
 use mathlib.Core.List.{List, [], _∷_, _++_}
 use lib.Dec.{eqb}
-use lib.ListN.{length, take}
+use lib.ListN.{length, getD, take}
 use Rattle.lists.specs.Choice.{choose}
+use Rattle.lists.specs.Places.{lowestFrom}
 use Rattle.model.specs.Session.{Session, lineTurn, newSession, lineText, nextLine}
 
 -- Where a session stands between two bytes: the session, the number of the next line, and the line so far. Of a line longer
@@ -55,3 +56,7 @@ spoken f (p ∷ ps) = said f p ++ spoken (after f p) ps
 unfoldable pub joined : List (List ℕ) → List ℕ
 joined [] = []
 joined (p ∷ ps) = p ++ joined ps
+
+-- where the line ends: the place of the first newline of l from i on, and the length of l where there is none
+abbrev pub newlineFrom : List ℕ → ℕ → ℕ
+newlineFrom l i = lowestFrom (λ k. eqb (getD l k 0) 10) i (length l - i)

@@ -1,1 +1,256 @@
-// The session over input that comes in pieces.
+// A session over input that comes in pieces. No function asks anything of its caller: soundness is tested once for a piece,
+// and then the inner calls are used for every line of it.
+ghost use Prim.Native.Nat.{min, _+_, _≤_};
+ghost use mathlib.Core.List.{_++_};
+ghost use mathlib.Core.Path.{_≡_};
+ghost use lib.ListN.{length, take};
+ghost use Rattle.lines.specs.Tables.{callNames, callShapes};
+ghost use Rattle.model.specs.Session.{lineTurn};
+ghost use Rattle.replies.specs.Wrote.{Wrote};
+ghost use Rattle.turns.specs.Taken.{sessionOf, usable, Taken};
+ghost use Rattle.driver.specs.Feed.{ended, replyTo, newlineFrom};
+ghost use Rattle.driver.specs.Fed.{feedOf, opened, FedTo, FinishedTo};
+use model::State;
+use turns::Host;
+
+// What stands between two pieces of input: whether a FRAMES has been done, the number of the next line, how many bytes of it
+// are held, and the tables.
+pub struct Session {
+    pub begun: bool,
+    pub line: u64,
+    pub have: usize,
+    pub state: State,
+}
+
+// What became of a piece: the session after it, how many of its bytes were taken, and how many bytes were written.
+pub struct Fed {
+    pub session: Session,
+    pub used: usize,
+    pub written: usize,
+}
+
+pub struct Finished {
+    pub done: bool,
+    pub written: usize,
+}
+
+// Before the first line.
+pub fn open() -> Session
+    ensures { λ r. ⌜ r ≡ opened ⌝ }
+{
+    Session {
+        begun: false,
+        line: 1,
+        have: 0,
+        state: fresh::empty(0, 0),
+    }
+}
+
+// The place of the first newline from `from` on, or the length.
+fn line_end(input: &[u8], from: usize) -> usize
+    requires { ⌜ from ≤ length (now input) ⌝ }
+    ensures { λ r. ⌜ (r ≡ newlineFrom (now (input .entry)) from) × (from ≤ r) × (r ≤ length (now (input .entry))) ⌝ }
+{
+    let mut i = from;
+    while i < input.len() {
+        if input[i] == 10 {
+            return i;
+        }
+        i += 1;
+    }
+    i
+}
+
+fn least(a: usize, b: usize) -> usize
+    ensures { λ r. ⌜ r ≡ min a b ⌝ }
+{
+    if a < b {
+        return a;
+    }
+    b
+}
+
+// How many bytes are held: no more than there is room for, whatever a session says.
+fn kept(held: &[u8], have: usize) -> usize
+    requires { ⌜ length (now held) ≡ 601 ⌝ }
+    ensures { λ r. ⌜ (take r (now (held .entry)) ≡ take have (now (held .entry))) × (r ≤ 601) ⌝ }
+{
+    least(have, 601)
+}
+
+// The bytes of a part go behind the bytes held, as many as there is room for.
+fn hold(held: &mut [u8], have: usize, part: &[u8]) -> usize
+    requires { ⌜ (length (now held) ≡ 601) × (have ≤ 601) ⌝ }
+    ensures { λ r. ⌜ (take r (now (held .exit)) ≡ take 601 (take have (now (held .entry)) ++ now (part .entry))) × (r ≤ 601) ⌝ }
+{
+    let room = 601 - have;
+    let n = least(part.len(), room);
+    moves::put(&mut held[have..], &part[0..n]);
+    have + n
+}
+
+// The rest of a line, at its newline: the line is answered. Where nothing of it is held, it is read in place.
+fn end_line(
+    host: Host,
+    held: &mut [u8],
+    have: usize,
+    scratch: &mut [u8],
+    rest: &[u8],
+    line: u64,
+    names: &[u64; 14],
+    shapes: &[u64; 14],
+    out: &mut [u8],
+) -> Host
+    requires { ⌜ (now names ≡ callNames) × (now shapes ≡ callShapes) × (length (now held) ≡ 601) × (have ≤ 601) × (host .ready ≡ usable (host .state) (length (now scratch))) × (host .at + 600 ≤ length (now out)) ⌝ }
+    ensures { λ r. ⌜ Taken (lineTurn (sessionOf host (now (scratch .entry))) (take 601 (take have (now (held .entry)) ++ now (rest .entry)))) line (now (out .entry)) (host .at) r (now (scratch .exit)) (now (out .exit)) ⌝ }
+{
+    if have == 0 {
+        return turns::take_turn(host, scratch, rest, line, names, shapes, out);
+    }
+    let n = hold(held, have, rest);
+    turns::take_turn(host, scratch, &held[0..n], line, names, shapes, out)
+}
+
+fn stand(host: Host, line: u64, have: usize, used: usize) -> Fed
+    ensures { λ r. ⌜ r ≡ record { session = record { begun = host .begun; line = line; have = have; state = host .state }; used = used; written = host .at } ⌝ }
+{
+    let state = host.state;
+    Fed {
+        session: Session {
+            begun: host.begun,
+            line: line,
+            have: have,
+            state: state,
+        },
+        used: used,
+        written: host.at,
+    }
+}
+
+// A piece of input, with the reader's tables lent.
+fn feed_with(
+    session: Session,
+    held: &mut [u8; 601],
+    scratch: &mut [u8],
+    input: &[u8],
+    names: &[u64; 14],
+    shapes: &[u64; 14],
+    out: &mut [u8],
+) -> Fed
+    requires { ⌜ (now names ≡ callNames) × (now shapes ≡ callShapes) × (session .have ≤ 601) ⌝ }
+    ensures { λ r. ⌜ FedTo (feedOf session (now (held .entry)) (now (scratch .entry))) (now (input .entry)) (now (out .entry)) (r .used) (r .written) (feedOf (r .session) (now (held .exit)) (now (scratch .exit))) (now (out .exit)) ⌝ }
+{
+    let state = session.state;
+    let mut host = Host {
+        begun: session.begun,
+        ready: turns::is_usable(state, scratch.len()),
+        at: 0,
+        state: state,
+    };
+    let mut line = session.line;
+    let mut have = session.have;
+    let mut i: usize = 0;
+    while i < input.len() {
+        if out.len() - host.at < 600 {
+            return stand(host, line, have, i);
+        }
+        let e = line_end(input, i);
+        if e == input.len() {
+            have = hold(held, have, &input[i..e]);
+            return stand(host, line, have, e);
+        }
+        host = end_line(
+            host,
+            held,
+            have,
+            scratch,
+            &input[i..e],
+            line,
+            names,
+            shapes,
+            out,
+        );
+        line = std::num::wrapping_add_u64(line, 1);
+        have = 0;
+        i = e + 1;
+    }
+    stand(host, line, have, i)
+}
+
+// A piece of input, as far as there is room for replies.
+pub fn feed(
+    mut session: Session,
+    held: &mut [u8; 601],
+    scratch: &mut [u8],
+    input: &[u8],
+    out: &mut [u8],
+) -> Fed
+    ensures { λ r. ⌜ FedTo (feedOf session (now (held .entry)) (now (scratch .entry))) (now (input .entry)) (now (out .entry)) (r .used) (r .written) (feedOf (r .session) (now (held .exit)) (now (scratch .exit))) (now (out .exit)) ⌝ }
+{
+    let names = lines::call_names();
+    let shapes = lines::call_shapes();
+    session.have = kept(held, session.have);
+    feed_with(session, held, scratch, input, &names, &shapes, out)
+}
+
+// A line that is held at the end of the input.
+fn last_line(
+    session: Session,
+    held: &[u8],
+    scratch: &mut [u8],
+    names: &[u64; 14],
+    shapes: &[u64; 14],
+    out: &mut [u8],
+) -> usize
+    requires { ⌜ (now names ≡ callNames) × (now shapes ≡ callShapes) × (session .have ≤ length (now held)) × (600 ≤ length (now out)) ⌝ }
+    ensures { λ r. ⌜ (Wrote (now (out .entry)) 0 (replyTo (feedOf session (now (held .entry)) (now (scratch .entry)))) (now (out .exit)) r) × (now (scratch .exit) ≡ ended (feedOf session (now (held .entry)) (now (scratch .entry))) .session .scratch) ⌝ }
+{
+    let state = session.state;
+    let host = Host {
+        begun: session.begun,
+        ready: turns::is_usable(state, scratch.len()),
+        at: 0,
+        state: state,
+    };
+    let have = session.have;
+    let after = turns::take_turn(
+        host,
+        scratch,
+        &held[0..have],
+        session.line,
+        names,
+        shapes,
+        out,
+    );
+    after.at
+}
+
+// The end of the input: a line that has a byte is answered.
+pub fn finish(
+    mut session: Session,
+    held: &[u8; 601],
+    scratch: &mut [u8],
+    out: &mut [u8],
+) -> Finished
+    ensures { λ r. ⌜ FinishedTo (feedOf session (now (held .entry)) (now (scratch .entry))) (now (scratch .entry)) (now (out .entry)) (r .done) (r .written) (now (scratch .exit)) (now (out .exit)) ⌝ }
+{
+    if out.len() < 600 {
+        return Finished {
+            done: false,
+            written: 0,
+        };
+    }
+    session.have = kept(held, session.have);
+    if session.have == 0 {
+        return Finished {
+            done: true,
+            written: 0,
+        };
+    }
+    let names = lines::call_names();
+    let shapes = lines::call_shapes();
+    Finished {
+        done: true,
+        written: last_line(session, held, scratch, &names, &shapes, out),
+    }
+}
