@@ -1,3 +1,4 @@
+pub mod Bounds
 pub mod Cut
 pub mod Ending
 pub mod Feeding
