@@ -1,0 +1,108 @@
+// Runs the session files that its arguments name. Of each it prints the name and the whole output of the session; then it runs
+// the file again in other pieces and with less room for replies, and says whether the output was the same.
+mod runs;
+
+ghost use Prim.Native.Nat.{_≤_};
+ghost use lib.ListN.{length};
+use libc::STDOUT_FILENO;
+
+fn say(text: &[u8]) {
+    io::write_all(STDOUT_FILENO, text);
+}
+
+fn say_number(n: usize) {
+    io::print_decimal(STDOUT_FILENO, n as u64);
+}
+
+// The input in two pieces, cut at every place; a long one at every 101st.
+fn compare_cuts(input: &[u8], want: &[u8]) {
+    let step = runs::cut_step(input.len());
+    let bad = runs::first_bad_cut(input, step, want);
+    if bad <= input.len() {
+        say(b"DIFFERS at cut ");
+        say_number(bad);
+        say(b"\n");
+        return;
+    }
+    say(b"same at ");
+    say_number(runs::cut_count(input.len()));
+    say(b" cuts\n");
+}
+
+fn compare_bytes(input: &[u8], want: &[u8]) {
+    if !runs::is_same_by_bytes(input, want) {
+        say(b"DIFFERS byte by byte\n");
+        return;
+    }
+    say(b"same byte by byte\n");
+}
+
+// Less room for replies, which are taken away whenever it is full.
+fn compare_rooms(input: &[u8], want: &[u8]) {
+    let bad = runs::first_bad_room(input, want);
+    if bad <= 1300 {
+        say(b"DIFFERS in a room of ");
+        say_number(bad);
+        say(b"\n");
+        return;
+    }
+    say(b"same in 8 rooms\n");
+}
+
+fn compare(input: &[u8], want: &[u8]) {
+    compare_cuts(input, want);
+    compare_bytes(input, want);
+    compare_rooms(input, want);
+}
+
+// The text of the session is the first `n` bytes.
+fn show_text(input: &[u8], text: &[u8], n: usize)
+    requires { ⌜ n ≤ length (now text) ⌝ }
+{
+    if n == text.len() {
+        say(b"too long\n");
+        return;
+    }
+    say(&text[0..n]);
+    compare(input, &text[0..n]);
+}
+
+fn show_session(input: &[u8]) {
+    let mut text = io::large_buffer();
+    let n = runs::run_whole(input, &mut text);
+    show_text(input, &text, n);
+}
+
+fn show_file(path: &[u8]) {
+    say(b"== ");
+    say(path);
+    say(b"\n");
+    let fd = os::open_read(path);
+    if fd < 0 {
+        say(b"no such file\n");
+        return;
+    }
+    let mut input = io::large_buffer();
+    let n = io::read_full(fd, &mut input);
+    libc::close(fd);
+    if n >= input.len() {
+        say(b"too long\n");
+        return;
+    }
+    show_session(&input[..n]);
+}
+
+fn show_argument(i: usize) {
+    let mut path = io::buffer();
+    let n = os::arg(i, &mut path);
+    show_file(&path[..n]);
+}
+
+fn main() {
+    let count = os::arg_count();
+    let mut i: usize = 1;
+    while i < count {
+        show_argument(i);
+        i += 1;
+    }
+}
