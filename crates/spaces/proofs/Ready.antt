@@ -18,10 +18,11 @@ use Rattle.model.specs.Leaves.{scratchJudged, bufferJudged}
 use Rattle.model.specs.Promise.{Promise, stepOf}
 use Rattle.model.specs.Replies.{reply, replied, callOf}
 use Rattle.model.specs.SoundTest.{sound}
-use Rattle.model.proofs.Promise.{promise-unready, promise-ready, KeepsScratch, KeepsBuffer}
+use Rattle.model.proofs.Promise.{promise-unready, promise-ready}
 use Rattle.making.specs.Made.{MadeBy}
 use Rattle.calls.specs.Served.{Served}
-use Rattle.calls.proofs.Served.{Unmoving, KeepsTables, Makes, still, made, asked, fetched, stored}
+use Rattle.calls.proofs.Served.{still, made, asked, fetched, stored}
+use Rattle.calls.proofs.Touches.{touch, LeavesTables, LeavesScratch, LeavesBuffer, Unmoving}
 
 -- what check 1 has found
 pub ready-sound : (s : State) (m : ℕ) (x : Bool) → x ≡ ready s m → x ≡ true → sound s ≡ true
@@ -36,36 +37,39 @@ ready-room s m x e t = eqb-true _ _ (both-right (sound s) _ (sym e ∙ t))
 pub refuses : (s : State) (k : Call) (m b : List ℕ) (x : Bool) → x ≡ ready s (length m) → x ≡ false → Promise (stepOf s m k b) Unsound s m b
 refuses s k m b x e f = promise-unready s k m b (sym e ∙ f)
 
-pub refuses-with : (s : State) (k : Call) (m b : List ℕ) (x : Bool) (r : Reply) → x ≡ ready s (length m) → x ≡ false → r ≡ reply Unsound s → Promise (stepOf s m k b) (r .answer) (r .state) m b
+pub refuses-with : (s : State) (k : Call) (m b : List ℕ) (x : Bool) (r : Reply) → x ≡ ready s (length m) → x ≡ false → r ≡ reply Unsound s
+    → Promise (stepOf s m k b) (r .answer) (r .state) m b
 refuses-with s k m b x r e f q = rw q (refuses s k m b x e f)
 
 -- check 1 passes
-pub serves : (s : State) (k : Call) (m b m' b' : List ℕ) (r : Reply) (x : Bool) → x ≡ ready s (length m) → x ≡ true → Served s k r m b m' b' → Promise (stepOf s m k b) (r .answer) (r .state) m' b'
+pub serves : (s : State) (k : Call) (m b m' b' : List ℕ) (r : Reply) (x : Bool) → x ≡ ready s (length m) → x ≡ true → Served s k r m b m' b'
+    → Promise (stepOf s m k b) (r .answer) (r .state) m' b'
 unfolding replied
 serves s k m b m' b' r x e t d =
     promise-ready s k m b (r .answer) (r .state) m' b' (sym e ∙ t) (ap (λ y. y .answer) (d .reply)) (ap (λ y. y .state) (d .reply)) (d .scratch) (d .buffer)
 
+-- and the single calls, by what each touches
 module _ (s : State) (c : Caller) (k : Operation) (m : List ℕ) (x : Bool) where
   -- tables alone
-  pub changes-tables : Unmoving k → KeepsScratch k → KeepsBuffer k → (r : Reply) → x ≡ ready s (length m) → x ≡ true → r ≡ replied (judge s (callOf c k) 0)
-      → Promise (stepOf s m (callOf c k) []) (r .answer) (r .state) m []
-  changes-tables u ks kb r e t q = serves s (callOf c k) m [] m [] r x e t (still s c k m [] u ks kb r q)
+  pub changes-tables : Unmoving (touch k) → LeavesScratch (touch k) → LeavesBuffer (touch k) → (r : Reply) → x ≡ ready s (length m) → x ≡ true
+      → r ≡ replied (judge s (callOf c k) 0) → Promise (stepOf s m (callOf c k) []) (r .answer) (r .state) m []
+  changes-tables u ls lb r e t q = serves s (callOf c k) m [] m [] r x e t (still s c k m [] u ls lb r q)
 
   -- nothing: an answer alone
-  pub asks : Unmoving k → KeepsTables k → KeepsScratch k → KeepsBuffer k → (a : Answer) → x ≡ ready s (length m) → x ≡ true → a ≡ judge s (callOf c k) 0 .answer
-      → Promise (stepOf s m (callOf c k) []) a s m []
-  asks u kt ks kb a e t q = serves s (callOf c k) m [] m [] (reply a s) x e t (asked s c k m [] u kt ks kb a q)
+  pub asks : Unmoving (touch k) → LeavesTables (touch k) → LeavesScratch (touch k) → LeavesBuffer (touch k) → (a : Answer) → x ≡ ready s (length m) → x ≡ true
+      → a ≡ judge s (callOf c k) 0 .answer → Promise (stepOf s m (callOf c k) []) a s m []
+  asks u lt ls lb a e t q = serves s (callOf c k) m [] m [] (reply a s) x e t (asked s c k m [] u lt ls lb a q)
 
   -- a space made
-  pub makes : Makes k → Unmoving k → KeepsBuffer k → (r : Reply) (m' : List ℕ) → x ≡ ready s (length m) → x ≡ true → MadeBy (judge s (callOf c k) 0) r m m'
-      → Promise (stepOf s m (callOf c k) []) (r .answer) (r .state) m' []
-  makes mk u kb r m' e t q = serves s (callOf c k) m [] m' [] r x e t (made s c k m [] mk u kb r m' q)
+  pub makes : Unmoving (touch k) → LeavesBuffer (touch k) → (r : Reply) (m' : List ℕ) → x ≡ ready s (length m) → x ≡ true
+      → MadeBy (judge s (callOf c k) 0) r m m' → Promise (stepOf s m (callOf c k) []) (r .answer) (r .state) m' []
+  makes u lb r m' e t q = serves s (callOf c k) m [] m' [] r x e t (made s c k m [] u lb r m' q)
 
   -- bytes moved
-  pub fetches : KeepsTables k → KeepsScratch k → (b b' : List ℕ) (a : Answer) → x ≡ ready s (length m) → x ≡ true → a ≡ judge s (callOf c k) (length b) .answer → b' ≡ bufferJudged s (callOf c k) m b
-      → Promise (stepOf s m (callOf c k) b) a s m b'
-  fetches kt ks b b' a e t q w = serves s (callOf c k) m b m b' (reply a s) x e t (fetched s c k m b kt ks a b' q w)
+  pub fetches : LeavesTables (touch k) → LeavesScratch (touch k) → (b b' : List ℕ) (a : Answer) → x ≡ ready s (length m) → x ≡ true
+      → a ≡ judge s (callOf c k) (length b) .answer → b' ≡ bufferJudged s (callOf c k) m b → Promise (stepOf s m (callOf c k) b) a s m b'
+  fetches lt ls b b' a e t q w = serves s (callOf c k) m b m b' (reply a s) x e t (fetched s c k m b lt ls a b' q w)
 
-  pub stores : KeepsTables k → KeepsBuffer k → (b m' : List ℕ) (a : Answer) → x ≡ ready s (length m) → x ≡ true → a ≡ judge s (callOf c k) (length b) .answer → m' ≡ scratchJudged s (callOf c k) m b
-      → Promise (stepOf s m (callOf c k) b) a s m' b
-  stores kt kb b m' a e t q w = serves s (callOf c k) m b m' b (reply a s) x e t (stored s c k m b kt kb a m' q w)
+  pub stores : LeavesTables (touch k) → LeavesBuffer (touch k) → (b m' : List ℕ) (a : Answer) → x ≡ ready s (length m) → x ≡ true
+      → a ≡ judge s (callOf c k) (length b) .answer → m' ≡ scratchJudged s (callOf c k) m b → Promise (stepOf s m (callOf c k) b) a s m' b
+  stores lt lb b m' a e t q w = serves s (callOf c k) m b m' b (reply a s) x e t (stored s c k m b lt lb a m' q w)
