@@ -19,6 +19,10 @@ if-go false b e p = true-false e refl
 pub not-is : (r t : Bool) → r ≡ t → not r ≡ not t
 not-is r t e = ap not e
 
+-- a test that is right where it says yes, and says yes
+pub sure-is : (r t : Bool) → (r ≡ true → t ≡ true) → r ≡ true → true ≡ t
+sure-is r t f e = sym (f e)
+
 pub lt-is : (a b n : ℕ) → a ≡ b → ltb a n ≡ ltb b n
 lt-is a b n e = ap (λ x. ltb x n) e
 

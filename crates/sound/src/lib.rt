@@ -184,6 +184,16 @@ fn apart_ok(spaces: [Space; 32]) -> bool
     true
 }
 
+// The quick test first; where it is unsure, the exact one decides.
+fn all_apart(spaces: [Space; 32]) -> bool
+    ensures { λ r. ⌜ r ≡ apartTest spaces ⌝ }
+{
+    if apart::surely_apart(spaces) {
+        return true;
+    }
+    apart_ok(spaces)
+}
+
 fn counts_of(tags: &[u8; 32]) -> [u8; 32]
     ensures { λ r. ⌜ Filled r (tagCount (now (tags .entry)) 32) 32 ⌝ }
 {
@@ -488,7 +498,7 @@ pub fn is_sound(s: State) -> bool
     if !slots_ok(&table, spaces, guests, s.frames, s.next, &mut tags) {
         return false;
     }
-    if !apart_ok(spaces) {
+    if !all_apart(spaces) {
         return false;
     }
     let cpus = s.cpus;

@@ -24,8 +24,8 @@ slots-ok-requires c κs = search needs
 returns-2 : tie.Need-returns-2
 returns-2 c = search (slots-no, passed, held-at) depth 10
 
-apart-ok-requires : tie.Need-apart-ok-requires
-apart-ok-requires c κs = search needs
+all-apart-requires : tie.Need-all-apart-requires
+all-apart-requires c κs = search needs
 
 returns-3 : tie.Need-returns-3
 returns-3 c = search (apart-no, passed, held-at) depth 10
@@ -63,7 +63,7 @@ is-sound-spec =
     later-table-requires
     slots-ok-requires
     returns-2
-    apart-ok-requires
+    all-apart-requires
     returns-3
     guests-ok-requires
     returns-4
