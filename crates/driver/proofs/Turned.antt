@@ -1,32 +1,46 @@
--- A line that is answered: read in place, or held in part before; in the loop, and at the end of the input. Assumes nothing.
+-- A line that is answered, in the loop and at the end of the input. Assumes nothing.
 use Prim.Native.Nat.{ℕ, _+_, _-_, _≤_, _<_, _%_, _^_}
 use mathlib.Core.List.{List, [], _++_}
-use mathlib.Core.Path.{_≡_, subst, sym, ap, _∙_}
+use mathlib.Core.Path.{_≡_, subst, ap, _∙_}
 use native.Mathlib.Omega.{arith}
 use lib.ListN.{length, take, drop, length-take}
+use Rattle.model.specs.declared.Request.{Request}
 use Rattle.model.specs.Session.{Session, Turn, lineTurn}
 use Rattle.replies.specs.Wrote.{Wrote}
+use Rattle.turns.specs.declared.Answered.{Answered}
+use Rattle.turns.specs.declared.Answered.the-variants.{To, NotYet}
 use Rattle.turns.specs.declared.Host.{Host}
-use Rattle.turns.specs.Taken.{sessionOf, Taken}
+use Rattle.turns.specs.Taken.{sessionOf, withAt, Taken, AnsweredTo}
+use Rattle.turns.proofs.Waiting.{answered-taken, yet-taken}
 use Rattle.driver.specs.declared.Session.{Session as Standing}
 use Rattle.driver.specs.Feed.{Feed, ended, replyTo, newlineFrom}
 use Rattle.driver.specs.Fed.{feedOf, Going}
-use Rattle.driver.proofs.Cut.{turn-cut}
 use Rattle.driver.proofs.Feeding.{going-line}
 
--- nothing was held: the line is the part that came
-pub turn-in-place : (s : Session) (held x : List ℕ) (have n a : ℕ) (out out₁ m : List ℕ) (h : Host) → have ≡ 0
-    → Taken (lineTurn s x) n out a h m out₁ → Taken (lineTurn s (take 601 (take have held ++ x))) n out a h m out₁
-turn-in-place s held x have n a out out₁ m h e t =
-    subst (λ (u : Turn). Taken u n out a h m out₁) (sym (turn-cut s x) ∙ ap (λ k. lineTurn s (take 601 (take k held ++ x))) (sym e)) t
-
 -- the line was put together
-pub turn-held : (s : Session) (held held₁ x : List ℕ) (have k n a : ℕ) (out out₁ m : List ℕ) (h : Host)
+turn-held : (s : Session) (held held₁ x : List ℕ) (have k n a : ℕ) (out out₁ m : List ℕ) (h : Host)
     → take k held₁ ≡ take 601 (take have held ++ x)
     → Taken (lineTurn s (take (k - 0) (drop 0 held₁))) n out a h m out₁ → Taken (lineTurn s (take 601 (take have held ++ x))) n out a h m out₁
 turn-held s held held₁ x have k n a out out₁ m h e t =
     let z : k - 0 ≡ k = omega arith in
     subst (λ (u : Turn). Taken u n out a h m out₁) (ap (λ j. lineTurn s (take j held₁)) z ∙ ap (lineTurn s) e) t
+
+-- it was answered at once
+pub held-answered : (h : Host) (q : Request) (m held held₁ x out m₁ out₁ : List ℕ) (have k n place : ℕ) (a : Answered)
+    → take k held₁ ≡ take 601 (take have held ++ x) → AnsweredTo h q m (take (k - 0) (drop 0 held₁)) n out a m₁ out₁ → a ≡ To place
+    → Taken (lineTurn (sessionOf h m) (take 601 (take have held ++ x))) n out (h .at) (withAt h place) m₁ out₁
+held-answered h q m held held₁ x out m₁ out₁ have k n place a e d t =
+    turn-held (sessionOf h m) held held₁ x have k n (h .at) out out₁ m₁ (withAt h place) e
+    (answered-taken h q m (take (k - 0) held₁) n out a m₁ out₁ d place t)
+
+-- it waited, and was answered then
+pub held-changed : (h : Host) (q : Request) (m held held₁ x out m₁ out₁ : List ℕ) (have k n : ℕ) (a : Answered) (h₁ : Host) (m₂ out₂ : List ℕ)
+    → take k held₁ ≡ take 601 (take have held ++ x) → AnsweredTo h q m (take (k - 0) (drop 0 held₁)) n out a m₁ out₁ → a ≡ NotYet
+    → Taken (lineTurn (sessionOf h m₁) (take (k - 0) (drop 0 held₁))) n out₁ (h .at) h₁ m₂ out₂
+    → Taken (lineTurn (sessionOf h m) (take 601 (take have held ++ x))) n out (h .at) h₁ m₂ out₂
+held-changed h q m held held₁ x out m₁ out₁ have k n a h₁ m₂ out₂ e d t r =
+    turn-held (sessionOf h m) held held₁ x have k n (h .at) out out₂ m₂ h₁ e
+    (yet-taken h q m (take (k - 0) held₁) n out a m₁ out₁ d h₁ m₂ out₂ t r)
 
 -- where the loop stands
 abbrev pub feedAt : Host → (scratch : List ℕ) → (line have : ℕ) → (held : List ℕ) → Feed

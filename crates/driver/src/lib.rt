@@ -5,12 +5,11 @@ ghost use mathlib.Core.List.{_++_};
 ghost use mathlib.Core.Path.{_≡_};
 ghost use lib.ListN.{length, take};
 ghost use Rattle.lines.specs.Tables.{callNames, callShapes};
-ghost use Rattle.model.specs.Session.{lineTurn};
 ghost use Rattle.replies.specs.Wrote.{Wrote};
-ghost use Rattle.turns.specs.Taken.{sessionOf, usable, Taken};
 ghost use Rattle.driver.specs.Feed.{ended, replyTo, newlineFrom};
 ghost use Rattle.driver.specs.Fed.{feedOf, opened, FedTo, FinishedTo};
 use model::State;
+use turns::Answered;
 use turns::Host;
 
 // What stands between two pieces of input: whether a FRAMES has been done, the number of the next line, how many bytes of it
@@ -89,28 +88,6 @@ fn hold(held: &mut [u8], have: usize, part: &[u8]) -> usize
     have + n
 }
 
-// The rest of a line, at its newline: the line is answered. Where nothing of it is held, it is read in place.
-fn end_line(
-    host: Host,
-    held: &mut [u8],
-    have: usize,
-    scratch: &mut [u8],
-    rest: &[u8],
-    line: u64,
-    names: &[u64; 14],
-    shapes: &[u64; 14],
-    out: &mut [u8],
-) -> Host
-    requires { ⌜ (now names ≡ callNames) × (now shapes ≡ callShapes) × (length (now held) ≡ 601) × (have ≤ 601) × (host .ready ≡ usable (host .state) (length (now scratch))) × (host .at + 600 ≤ length (now out)) ⌝ }
-    ensures { λ r. ⌜ Taken (lineTurn (sessionOf host (now (scratch .entry))) (take 601 (take have (now (held .entry)) ++ now (rest .entry)))) line (now (out .entry)) (host .at) r (now (scratch .exit)) (now (out .exit)) ⌝ }
-{
-    if have == 0 {
-        return turns::take_turn(host, scratch, rest, line, names, shapes, out);
-    }
-    let n = hold(held, have, rest);
-    turns::take_turn(host, scratch, &held[0..n], line, names, shapes, out)
-}
-
 fn stand(host: Host, line: u64, have: usize, used: usize) -> Fed
     ensures { λ r. ⌜ r ≡ record { session = record { begun = host .begun; line = line; have = have; state = host .state }; used = used; written = host .at } ⌝ }
 {
@@ -130,14 +107,14 @@ fn stand(host: Host, line: u64, have: usize, used: usize) -> Fed
 // A piece of input, with the reader's tables lent.
 fn feed_with(
     session: Session,
-    held: &mut [u8; 601],
+    held: &mut [u8],
     scratch: &mut [u8],
     input: &[u8],
     names: &[u64; 14],
     shapes: &[u64; 14],
     out: &mut [u8],
 ) -> Fed
-    requires { ⌜ (now names ≡ callNames) × (now shapes ≡ callShapes) × (session .have ≤ 601) ⌝ }
+    requires { ⌜ (now names ≡ callNames) × (now shapes ≡ callShapes) × (length (now held) ≡ 601) × (session .have ≤ 601) ⌝ }
     ensures { λ r. ⌜ FedTo (feedOf session (now (held .entry)) (now (scratch .entry))) (now (input .entry)) (now (out .entry)) (r .used) (r .written) (feedOf (r .session) (now (held .exit)) (now (scratch .exit))) (now (out .exit)) ⌝ }
 {
     let state = session.state;
@@ -155,24 +132,24 @@ fn feed_with(
             return stand(host, line, have, i);
         }
         let e = line_end(input, i);
+        let n = hold(held, have, &input[i..e]);
         if e == input.len() {
-            have = hold(held, have, &input[i..e]);
-            return stand(host, line, have, e);
+            return stand(host, line, n, e);
         }
-        host = end_line(
-            host,
-            held,
-            have,
-            scratch,
-            &input[i..e],
-            line,
-            names,
-            shapes,
-            out,
-        );
+        let number = line;
         line = std::num::wrapping_add_u64(line, 1);
         have = 0;
         i = e + 1;
+        let request = lines::read(&held[0..n], names, shapes);
+        let answered = turns::answer(host, scratch, &held[0..n], number, request, out);
+        match answered {
+            Answered::To { place } => {
+                host.at = place;
+            }
+            Answered::NotYet => {
+                host = turns::change(host, scratch, &held[0..n], number, request, out);
+            }
+        }
     }
     stand(host, line, have, i)
 }

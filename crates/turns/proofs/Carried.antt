@@ -1,8 +1,8 @@
 -- A call of a line, carried out: by check 1 it is refused, or served, and either way it is the model's step. Assumes nothing.
 use Prim.Native.Nat.{ℕ, _+_, _-_, _*_, _≤_}
 use mathlib.Core.Bool.{true, false, not}
-use mathlib.Core.List.{List, _++_}
-use mathlib.Core.Path.{_≡_, refl, sym, ap, ap₂, _∙_}
+use mathlib.Core.List.{List, [], _∷_, _++_}
+use mathlib.Core.Path.{_≡_, refl, subst, sym, ap, _∙_}
 use native.Mathlib.Nat.{sub-zero}
 use native.Mathlib.Omega.{arith}
 use lib.ListN.{length, take, drop, length-append}
@@ -12,8 +12,10 @@ use Rattle.lists.specs.Bytes.{over}
 use Rattle.lists.specs.Choice.{choose}
 use Rattle.lists.proofs.Bytes.{length-get}
 use Rattle.lists.proofs.Choice.{yes! }
+use Rattle.model.specs.declared.Answer.{Answer}
 use Rattle.model.specs.declared.Answer.the-variants.{Unsound}
 use Rattle.model.specs.declared.Call.{Call}
+use Rattle.model.specs.declared.Operation.the-variants.{Query, Fetch, Store}
 use Rattle.model.specs.declared.Reply.{Reply}
 use Rattle.model.specs.declared.Request.{Request}
 use Rattle.model.specs.declared.Request.the-variants.{Call as Asked}
@@ -25,13 +27,14 @@ use Rattle.model.specs.Frames.{layout, placeOf}
 use Rattle.model.specs.Leaves.{scratchJudged, bufferJudged}
 use Rattle.model.specs.Lines.{readLine}
 use Rattle.model.specs.Promise.{stepOf}
-use Rattle.model.specs.Replies.{replied}
+use Rattle.model.specs.Replies.{replied, reply, callOf}
 use Rattle.model.specs.Session.{LineOutcome, turn, machineOf, bufferFor, issueOf, callTurn, requestTurn, lineTurn, lineText, valueText}
 use Rattle.model.specs.Step.{outcome, step, scratchAfter, bufferAfter}
 use Rattle.model.proofs.Refusals.{unready}
 use Rattle.model.proofs.Rules.{check-yes}
 use Rattle.model.proofs.Sound.{ready-to, ready-kept, length-scratchAfter}
 use Rattle.calls.specs.Served.{Served}
+use Rattle.calls.proofs.Served.{query-served, fetch-served, store-served}
 use Rattle.replies.specs.Wrote.{Wrote}
 use Rattle.turns.specs.declared.Host.{Host}
 use Rattle.turns.specs.Taken.{sessionOf, usable, withAt, Taken}
@@ -84,13 +87,13 @@ module _ (h : Host) (m l : List ℕ) (k : Call) (size : ℕ) (e : readLine l ≡
       (unready (h .state) (length (take (h .state .frames * 4096) m)) k (length (i .buffer)) (sym (usable-ready (h .state) m) ∙ f))
       ∙ ap (λ x. turn (Asked k size) Unsound (i .buffer) (sessionOf h x)) (over-same (h .state .frames * 4096) m)
 
-  pub unready-taken : (out out' x : List ℕ) (number p : ℕ) (q : Request) → q ≡ Asked k size → h .ready ≡ usable (h .state) (length m) → not (h .ready) ≡ true
-      → Wrote out (h .at) (lineText number (outcomeWith q x)) out' p → Taken (lineTurn (sessionOf h m) l) number out (h .at) (withAt h p) m out'
-  unready-taken out out' x number p q g u f w =
+  unready-taken : (out out' : List ℕ) (number p : ℕ) (q : Request) → q ≡ Asked k size → h .ready ≡ usable (h .state) (length m) → not (h .ready) ≡ true
+      → Wrote out (h .at) (lineText number (outcomeWith q [])) out' p → Taken (lineTurn (sessionOf h m) l) number out (h .at) (withAt h p) m out'
+  unready-taken out out' number p q g u f w =
       rw (unready-turn (sym u ∙ not-true (h .ready) f))
       (record {
         session = refl;
-        reply = rw (g, refused-text number (Asked k size) x (bufferFor (k .operation) size l)) at w;
+        reply = rw (g, refused-text number (Asked k size) [] (bufferFor (k .operation) size l)) at w;
         ready = u;
       })
 
@@ -108,37 +111,111 @@ module _ (h : Host) (m l : List ℕ) (k : Call) (size : ℕ) (e : readLine l ≡
         let x = ready-to (machineOf (sessionOf h m)) (sym (usable-ready (h .state) m) ∙ u) in
         usable-back (r .state) m m' (rw stepped at (ready-kept (machineOf (sessionOf h m)) (issueOf k size l) x))
 
--- The same in the shape in which the code's parts are lent and come back: `n` bytes of the buffer, and the machine's frames of
--- scratch.
-module _ (s : State) (k : Call) (m buf m' b' : List ℕ) (n : ℕ) (r : Reply) (i : n ≤ 257) (j : length buf ≡ 257) (d : Served s k r m (take (n - 0) buf) m' b') where
-  buffer-long : length b' ≡ n
-  buffer-long =
-      served-buffer s k m (take (n - 0) buf) m' b' r d ∙ ap (λ x. length (take x buf)) (sub-zero n) ∙ length-take-le n buf (omega arith)
+-- what a fetch gives back is as long as what it was given
+pub fetched-long : (s : State) (k : Call) (m buf b' x : List ℕ) (n : ℕ) → n ≤ 257 → length buf ≡ 257 → b' ≡ bufferJudged s k m (take (n - 0) buf)
+    → n ≤ length (b' ++ x)
+unfolding bufferJudged
+fetched-long s k m buf b' x n i j e =
+    let given : length (take (n - 0) buf) ≡ n = ap (λ y. length (take y buf)) (sub-zero n) ∙ length-take-le n buf (omega arith) in
+    let long : length b' ≡ n = ap length e ∙ length-bufferAfter _ (judge s k (length (take (n - 0) buf)) .effect) m (take (n - 0) buf) ∙ given in
+    omega (arith, length-append b' x, long)
 
-  pub back-long : (x : List ℕ) → n ≤ length (b' ++ x)
-  back-long x = omega (arith, length-append b' x, buffer-long)
+-- The host after a served call.
+abbrev after : Host → Reply → (place : ℕ) → Host
+after h r p = record { begun = h .begun; ready = h .ready; at = p; state = r .state }
 
-pub ready-taken : (h : Host) (k : Call) (m l buf m' b' out out' : List ℕ) (number size n p : ℕ) (q : Request) (r : Reply)
-    → readLine l ≡ Asked k size → q ≡ Asked k size → h .begun ≡ true → h .ready ≡ usable (h .state) (length m) → not (h .ready) ≡ false
-    → take n buf ≡ bufferFor (k .operation) size l → n ≤ 257 → length buf ≡ 257
-    → Served (h .state) k r (take (h .state .frames * 4096 - 0) m) (take (n - 0) buf) m' b'
-    → Wrote out (h .at) (lineText number (record { request = q; answer = r .answer; moved = take (n - 0) (b' ++ drop (n - 0) buf) })) out' p
-    → Taken (lineTurn (sessionOf h m) l) number out (h .at) (record { begun = true; ready = true; at = p; state = r .state })
-    (m' ++ drop (h .state .frames * 4096 - 0) m) out'
-unfolding over
-ready-taken h k m l buf m' b' out out' number size n p q r e g b u t f i j d w =
-    let v : usable (h .state) (length m) ≡ true = sym u ∙ not-false (h .ready) t in
-    let room = h .state .frames * 4096 in
-    let a : Served (h .state) k r (take room m) (bufferFor (k .operation) size l) m' b' = rw (sub-zero room, sub-zero n, f) at d in
-    let long : length (take room m) ≡ room = length-take-le room m (usable-room (h .state) m (h .ready) u t) in
-    let c : length m' ≡ room = served-scratch (h .state) k (take room m) (bufferFor (k .operation) size l) m' b' r a ∙ long in
-    let z : 0 + length m' ≡ room - 0 = omega (arith, c) in
-    let o : over m 0 m' ≡ m' ++ drop (room - 0) m = ap (λ x. m' ++ drop x m) z in
-    let back = take-at b' (drop (n - 0) buf) n (buffer-long (h .state) k (take (room - 0) m) buf m' b' n r i j d) in
-    let y : take (n - 0) (b' ++ drop (n - 0) buf) ≡ b' = ap (λ x. take x (b' ++ drop (n - 0) buf)) (sub-zero n) ∙ back in
-    rw (ready-turn h m l k size e b r m' b' v a)
-    (record {
-      session = ap₂ (λ x y. record { begun = x; tables = r .state; scratch = y }) (sym b) (sym o);
-      reply = rw (g, y) at w;
-      ready = sym (ap (λ x. usable (r .state) (length x)) (sym o) ∙ still-usable h m l k size e b r m' b' v a);
-    })
+module _ (h : Host) (k : Call) (m l : List ℕ) (number size : ℕ) (q : Request) (e : readLine l ≡ Asked k size) (g : q ≡ Asked k size) (b : h .begun ≡ true)
+    (t : h .ready ≡ true) (u : h .ready ≡ usable (h .state) (length m)) (out : List ℕ) where
+  abbrev room : ℕ
+  room = h .state .frames * 4096
+
+  abbrev given : List ℕ
+  given = bufferFor (k .operation) size l
+
+  abbrev said : Answer → List ℕ → List ℕ
+  said a x = lineText number (record { request = q; answer = a; moved = x })
+
+  served-taken : (r : Reply) (m' b' out' : List ℕ) (p : ℕ) → Served (h .state) k r (take room m) given m' b' → Wrote out (h .at) (said (r .answer) b') out' p
+      → Taken (lineTurn (sessionOf h m) l) number out (h .at) (after h r p) (over m 0 m') out'
+  served-taken r m' b' out' p d w =
+      let v : usable (h .state) (length m) ≡ true = sym u ∙ t in
+      rw (ready-turn h m l k size e b r m' b' v d)
+      (record { session = refl; reply = rw g at w; ready = t ∙ sym (still-usable h m l k size e b r m' b' v d) })
+
+  -- the machine's frames of scratch, as they are lent and come back
+  lent : take (room - 0) m ≡ take room m
+  lent = ap (λ x. take x m) (sub-zero room)
+
+  back : (r : Reply) (m' b' : List ℕ) → Served (h .state) k r (take room m) given m' b' → over m 0 m' ≡ m' ++ drop (room - 0) m
+  unfolding over
+  back r m' b' d =
+      let long : length (take room m) ≡ room = length-take-le room m (usable-room (h .state) m (h .ready) u t) in
+      let c : length m' ≡ room = served-scratch (h .state) k (take room m) given m' b' r d ∙ long in
+      let z : 0 + length m' ≡ room - 0 = omega (arith, c) in
+      ap (λ x. m' ++ drop x m) z
+
+  -- QUERY
+  pub query-taken : (owner name p : ℕ) (a : Answer) (out' : List ℕ) → k .operation ≡ Query owner name
+      → a ≡ judge (h .state) (callOf (k .caller) (Query owner name)) 0 .answer → Wrote out (h .at) (said a []) out' p
+      → Taken (lineTurn (sessionOf h m) l) number out (h .at) (withAt h p) m out'
+  unfolding bufferFor
+  query-taken owner name p a out' o j w =
+      let bare : given ≡ [] = rw o refl in
+      let d : Served (h .state) k (reply a (h .state)) (take room m) given (take room m) given = query-served (h .state) k (take room m) given owner name a o j in
+      let x : Wrote out (h .at) (said a given) out' p = rw bare w in
+      rw (over-same room m) at (served-taken (reply a (h .state)) (take room m) given out' p d x)
+
+  -- the first n bytes of the buffer are the call's
+  module _ (n : ℕ) (buf : List ℕ) (f : take n buf ≡ given) (i : n ≤ 257) (j : length buf ≡ 257) where
+    filled : take (n - 0) buf ≡ given
+    filled = ap (λ x. take x buf) (sub-zero n) ∙ f
+
+    filled-long : length given ≡ n
+    filled-long = ap length (sym f) ∙ length-take-le n buf (omega arith)
+
+    -- FETCH
+    pub fetch-taken : (register address p : ℕ) (a : Answer) (b' out' : List ℕ) → k .operation ≡ Fetch register address
+        → a ≡ judge (h .state) (callOf (k .caller) (Fetch register address)) (length (take (n - 0) buf)) .answer
+        → b' ≡ bufferJudged (h .state) (callOf (k .caller) (Fetch register address)) (take (room - 0) m) (take (n - 0) buf)
+        → Wrote out (h .at) (said a (take (n - 0) (b' ++ drop (n - 0) buf))) out' p
+        → Taken (lineTurn (sessionOf h m) l) number out (h .at) (withAt h p) m out'
+    fetch-taken register address p a b' out' o x y w =
+        let x' = rw filled at x in
+        let y' = rw (lent, filled) at y in
+        let d : Served (h .state) k (reply a (h .state)) (take room m) given (take room m) b' = fetch-served (h .state) k (take room m) given register address a b' o x' y' in
+        let long : length b' ≡ n = served-buffer (h .state) k (take room m) given (take room m) b' (reply a (h .state)) d ∙ filled-long in
+        let z : take (n - 0) (b' ++ drop (n - 0) buf) ≡ b' = ap (λ j. take j (b' ++ drop (n - 0) buf)) (sub-zero n) ∙ take-at b' (drop (n - 0) buf) n long in
+        rw (over-same room m) at (served-taken (reply a (h .state)) (take room m) b' out' p d (rw z at w))
+
+    -- STORE
+    pub store-taken : (register address p : ℕ) (a : Answer) (m' out' : List ℕ) → k .operation ≡ Store register address
+        → a ≡ judge (h .state) (callOf (k .caller) (Store register address)) (length (take (n - 0) buf)) .answer
+        → m' ≡ scratchJudged (h .state) (callOf (k .caller) (Store register address)) (take (room - 0) m) (take (n - 0) buf)
+        → Wrote out (h .at) (said a (take (n - 0) buf)) out' p
+        → Taken (lineTurn (sessionOf h m) l) number out (h .at) (withAt h p) (m' ++ drop (room - 0) m) out'
+    store-taken register address p a m' out' o x y w =
+        let x' = rw filled at x in
+        let y' = rw (lent, filled) at y in
+        let d : Served (h .state) k (reply a (h .state)) (take room m) given m' given = store-served (h .state) k (take room m) given register address a m' o x' y' in
+        rw (back (reply a (h .state)) m' given d) at (served-taken (reply a (h .state)) m' given out' p d (rw filled at w))
+
+  -- a call that moves no bytes
+  empty : (x : List ℕ) → length x ≡ 0 → x ≡ []
+  empty [] z = refl
+  empty (y ∷ x) z = absurd (omega arith)
+
+  pub carried : (r : Reply) (m' b' out' : List ℕ) (p : ℕ) → given ≡ [] → Served (h .state) k r (take (room - 0) m) [] m' b' → Wrote out (h .at) (said (r .answer) []) out' p
+      → Taken (lineTurn (sessionOf h m) l) number out (h .at) (record { begun = true; ready = true; at = p; state = r .state }) (m' ++ drop (room - 0) m) out'
+  carried r m' b' out' p bare d w =
+      let d' : Served (h .state) k r (take room m) given m' b' = rw bare (rw lent at d) in
+      let z : b' ≡ [] = empty b' (served-buffer (h .state) k (take room m) given m' b' r d' ∙ ap length bare) in
+      let host : after h r p ≡ record { begun = true; ready = true; at = p; state = r .state } = rw (b, t) refl in
+      subst (λ (x : Host). Taken (lineTurn (sessionOf h m) l) number out (h .at) x (m' ++ drop (room - 0) m) out') host
+      (rw (back r m' b' d') at (served-taken r m' b' out' p d' (rw z w)))
+
+-- check 1 does not hold, of a line as it was read
+pub unready-answered : (h : Host) (m l out out' : List ℕ) (number size p : ℕ) (k : Call) (q : Request) → q ≡ readLine l → q ≡ Asked k size
+    → not (h .begun) ≡ false → not (h .ready) ≡ true → h .ready ≡ usable (h .state) (length m)
+    → Wrote out (h .at) (lineText number (outcomeWith (Asked k size) [])) out' p → Taken (lineTurn (sessionOf h m) l) number out (h .at) (withAt h p) m out'
+unready-answered h m l out out' number size p k q e g b f u w =
+    unready-taken h m l k size (sym e ∙ g) (not-false (h .begun) b) out out' number p (Asked k size) refl u f w

@@ -2,3 +2,4 @@ pub mod Replied
 pub mod Filled
 pub mod Usable
 pub mod Carried
+pub mod Waiting

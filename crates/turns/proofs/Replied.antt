@@ -2,7 +2,7 @@
 use Prim.Native.Nat.{ℕ}
 use mathlib.Core.Bool.{Bool, true, false, not}
 use mathlib.Core.List.{List, []}
-use mathlib.Core.Path.{_≡_, sym, ap, _∙_}
+use mathlib.Core.Path.{_≡_, refl, sym, ap, _∙_}
 use borrow.Author.Tests.{not-true, not-false}
 use lib.Dec.{leb}
 use lib.ListN.{length}
@@ -17,9 +17,10 @@ use Rattle.model.specs.declared.Request.the-variants.{Frames, Call as Asked, No
 use Rattle.model.specs.declared.State.{State}
 use Rattle.model.specs.Fresh.{emptyTables}
 use Rattle.model.specs.Lines.{readLine}
-use Rattle.model.specs.Session.{LineOutcome, Turn, turn, framesTurn, requestTurn, lineTurn}
+use Rattle.model.specs.Session.{LineOutcome, Turn, turn, framesTurn, lineText, requestTurn, lineTurn}
+use Rattle.replies.specs.Wrote.{Wrote}
 use Rattle.turns.specs.declared.Host.{Host}
-use Rattle.turns.specs.Taken.{sessionOf, usable, Said, Taken}
+use Rattle.turns.specs.Taken.{sessionOf, usable, withAt, Said, Taken}
 
 abbrev pub outcomeOf : Request → Answer → LineOutcome
 outcomeOf r a = record { request = r; answer = a; moved = [] }
@@ -68,7 +69,7 @@ module _ (h h' : Host) (m l out out' : List ℕ) (number : ℕ) (x : Request) (e
   frames-taken count q t = rw (sym e ∙ q) t
 
   -- a call before a done FRAMES
-  pub early-taken : (k : Call) (size : ℕ) → x ≡ Asked k size → not (h .begun) ≡ true → h .ready ≡ usable (h .state) (length m)
+  early-taken : (k : Call) (size : ℕ) → x ≡ Asked k size → not (h .begun) ≡ true → h .ready ≡ usable (h .state) (length m)
       → Said h number (outcomeOf (Asked k size) LineNotRead) out h' out' → Taken (lineTurn (sessionOf h m) l) number out (h .at) h' m out'
   unfolding requestTurn
   early-taken k size q b u d =
@@ -81,6 +82,20 @@ module _ (h h' : Host) (m l out out' : List ℕ) (number : ℕ) (x : Request) (e
   unread-taken q u d =
       said-taken h h' m out out' number x LineNotRead _ u d
       (ap (requestTurn (sessionOf h m) l) (sym e ∙ q) ∙ ap (λ y. turn y LineNotRead [] (sessionOf h m)) (sym q))
+
+-- the same where the code has written the reply
+said-at : (h : Host) (number p : ℕ) (x : Request) (out out' : List ℕ) → Wrote out (h .at) (lineText number (outcomeOf x LineNotRead)) out' p
+    → Said h number (outcomeOf x LineNotRead) out (withAt h p) out'
+said-at h number p x out out' w = record { same = refl; reply = w }
+
+module _ (h : Host) (m l out out' : List ℕ) (number p : ℕ) (x : Request) (e : x ≡ readLine l) (u : h .ready ≡ usable (h .state) (length m)) where
+  pub early-answered : (k : Call) (size : ℕ) → x ≡ Asked k size → not (h .begun) ≡ true → Wrote out (h .at) (lineText number (outcomeOf (Asked k size) LineNotRead)) out' p
+      → Taken (lineTurn (sessionOf h m) l) number out (h .at) (withAt h p) m out'
+  early-answered k size q b w = early-taken h (withAt h p) m l out out' number x e k size q b u (said-at h number p (Asked k size) out out' w)
+
+  pub unread-answered : x ≡ NotRead → Wrote out (h .at) (lineText number (outcomeOf x LineNotRead)) out' p
+      → Taken (lineTurn (sessionOf h m) l) number out (h .at) (withAt h p) m out'
+  unread-answered q w = unread-taken h (withAt h p) m l out out' number x e q u (said-at h number p x out out' w)
 
 -- the line is the call that was read
 pub line-asks : (l : List ℕ) (x y : Request) → x ≡ readLine l → x ≡ y → readLine l ≡ y

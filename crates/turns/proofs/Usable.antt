@@ -1,6 +1,6 @@
 -- Check 1 of a session: the first frames of the lent scratch are the machine's. Assumes nothing.
 use Prim.Native.Nat.{ℕ, _+_, _-_, _*_, _≤_}
-use mathlib.Core.Bool.{Bool, true, false, not}
+use mathlib.Core.Bool.{Bool, true}
 use mathlib.Core.List.{List, _++_}
 use mathlib.Core.Path.{_≡_, sym, ap, _∙_}
 use native.Mathlib.Decide.{decLe}
@@ -9,7 +9,7 @@ use native.Mathlib.Omega.{arith}
 use lib.Dec.{leb, eqb}
 use lib.ListN.{length, take, drop, take-append-drop, length-append}
 use lib.Seq.{take-all, length-take-le}
-use borrow.Author.Tests.{leb-true, le-leb, lt-leb, eq-eqb, ne-eqb, not-false}
+use borrow.Author.Tests.{leb-true, le-leb, lt-leb, eq-eqb, ne-eqb}
 use Rattle.lists.specs.Bytes.{over}
 use Rattle.lists.specs.Choice.{both}
 use Rattle.lists.proofs.Choice.{both-left, both-right, both-intro}
@@ -36,9 +36,9 @@ unfolding ready
 usable-ready s m = ap (both (sound s)) (enough (s .frames * 4096) m)
 
 -- what a test of it has found
-module _ (s : State) (m : List ℕ) (x : Bool) (e : x ≡ usable s (length m)) (t : not x ≡ false) where
+module _ (s : State) (m : List ℕ) (x : Bool) (e : x ≡ usable s (length m)) (t : x ≡ true) where
   holds : usable s (length m) ≡ true
-  holds = sym e ∙ not-false x t
+  holds = sym e ∙ t
 
   pub usable-sound : sound s ≡ true
   usable-sound = both-left (sound s) _ holds

@@ -1,16 +1,20 @@
 -- What becomes of one line: the session after it, and its reply.
 use Prim.Native.Nat.{ℕ, _*_}
-use mathlib.Core.Bool.{Bool}
-use mathlib.Core.List.{List}
+use mathlib.Core.Bool.{Bool, true}
+use mathlib.Core.List.{List, []}
 use mathlib.Core.Path.{_≡_}
 use lib.Dec.{leb}
 use Rattle.lists.specs.Choice.{both}
 use lib.ListN.{length}
+use Rattle.model.specs.declared.Request.{Request}
+use Rattle.model.specs.declared.Request.the-variants.{Frames, Call, NotRead}
 use Rattle.model.specs.declared.State.{State}
-use Rattle.model.specs.Session.{Session, LineOutcome, Turn, lineText}
+use Rattle.model.specs.Session.{Session, LineOutcome, Turn, bufferFor, lineText, lineTurn}
 use Rattle.model.specs.Sizes.{frameSize}
 use Rattle.model.specs.SoundTest.{sound}
 use Rattle.replies.specs.Wrote.{Wrote}
+use Rattle.turns.specs.declared.Answered.{Answered}
+use Rattle.turns.specs.declared.Answered.the-variants.{To, NotYet}
 use Rattle.turns.specs.declared.Host.{Host}
 
 -- where the host stands in a session
@@ -34,3 +38,14 @@ pub record Taken (t : Turn) (number : ℕ) (out : List ℕ) (place : ℕ) (h : H
   pub session : sessionOf h m ≡ t .after
   pub reply : Wrote out place (lineText number (t .outcome)) out' (h .at)
   pub ready : h .ready ≡ usable (h .state) (length m)
+
+-- what a line that is not answered yet asks for finds: a call finds a host that check 1 holds of, and moves no bytes
+abbrev pub Waiting : Host → (line : List ℕ) → Request → Type 0
+Waiting h l (Frames count) = Unit {0}
+Waiting h l (Call k size) = (h .begun ≡ true) × (h .ready ≡ true) × (bufferFor (k .operation) size l ≡ [])
+Waiting h l NotRead = Unit {0}
+
+-- the line l has been answered, and the tables are as they were; or nothing has been done yet
+abbrev pub AnsweredTo : Host → Request → (m l : List ℕ) → (number : ℕ) → (out : List ℕ) → Answered → (m' out' : List ℕ) → Type 0
+AnsweredTo h q m l number out (To place) m' out' = Taken (lineTurn (sessionOf h m) l) number out (h .at) (withAt h place) m' out'
+AnsweredTo h q m l number out NotYet m' out' = Waiting h l q × (m' ≡ m) × (out' ≡ out)

@@ -8,9 +8,11 @@ ghost use lib.ListN.{length, take, replicate};
 ghost use Rattle.lists.specs.Choice.{both};
 ghost use Rattle.lines.specs.Tables.{callNames, callShapes};
 ghost use Rattle.model.specs.Lines.{readLine};
-ghost use Rattle.model.specs.Session.{bufferFor, framesTurn, lineTurn};
+ghost use Rattle.model.specs.Session.{bufferFor, framesTurn, lineText, lineTurn};
+ghost use Rattle.model.specs.declared.Operation.the-variants.{Fetch, Store};
 ghost use Rattle.model.specs.declared.Request.the-variants.{Call as Asked};
-ghost use Rattle.turns.specs.Taken.{sessionOf, usable, Said, Taken};
+ghost use Rattle.replies.specs.Wrote.{Wrote};
+ghost use Rattle.turns.specs.Taken.{sessionOf, usable, Said, Taken, Waiting, AnsweredTo, withAt};
 use model::Answer;
 use model::Call;
 use model::Kind;
@@ -26,6 +28,12 @@ pub struct Host {
     pub ready: bool,
     pub at: usize,
     pub state: State,
+}
+
+// What became of a line that leaves the tables: its reply ends at a place. A line that may change them is not answered yet.
+pub enum Answered {
+    To { place: usize },
+    NotYet,
 }
 
 // Check 1, where more scratch may be lent than the state has frames.
@@ -48,6 +56,14 @@ fn in_range(count: u32) -> bool
     count <= 8
 }
 
+// A reply with no bytes in it.
+fn put_empty(out: &mut [u8], at: usize, number: u64, request: Request, answer: Answer) -> usize
+    requires { ⌜ at + 600 ≤ length (now out) ⌝ }
+    ensures { λ r. ⌜ Wrote (now (out .entry)) at (lineText number (record { request = request; answer = answer; moved = [] })) (now (out .exit)) r ⌝ }
+{
+    replies::put_line(out, at, number, request, answer, &[])
+}
+
 // The buffer of a call, in the first bytes of `buffer`; how many they are.
 fn fill(line: &[u8], call: Call, size: u32, buffer: &mut [u8; 257]) -> usize
     requires { ⌜ (readLine (now line) ≡ Asked call size) × (now buffer ≡ replicate 257 0) ⌝ }
@@ -66,9 +82,158 @@ fn fill(line: &[u8], call: Call, size: u32, buffer: &mut [u8; 257]) -> usize
     }
 }
 
-// A call, where a FRAMES has been done.
+// FETCH, STORE and QUERY leave the tables, so that only the place after the reply comes back.
+fn answer_fetch(
+    h: Host,
+    scratch: &[u8],
+    line: &[u8],
+    number: u64,
+    request: Request,
+    call: Call,
+    size: u32,
+    register: u32,
+    address: u32,
+    out: &mut [u8],
+) -> usize
+    requires { ⌜ (readLine (now line) ≡ Asked call size) × (request ≡ Asked call size) × (h .begun ≡ true) × (h .ready ≡ true) × (h .ready ≡ usable (h .state) (length (now scratch))) × (h .at + 600 ≤ length (now out)) × (call .operation ≡ Fetch register address) ⌝ }
+    ensures { λ r. ⌜ Taken (lineTurn (sessionOf h (now (scratch .entry))) (now (line .entry))) number (now (out .entry)) (h .at) (withAt h r) (now (scratch .entry)) (now (out .exit)) ⌝ }
+{
+    let mut buffer = [0u8; 257];
+    let n = fill(line, call, size, &mut buffer);
+    let s = h.state;
+    let room = (s.frames as usize) * 4096;
+    let answer = access::fetch(
+        s,
+        &scratch[0..room],
+        call.caller,
+        register,
+        address,
+        &mut buffer[0..n],
+    );
+    replies::put_line(out, h.at, number, request, answer, &buffer[0..n])
+}
+
+fn answer_store(
+    h: Host,
+    scratch: &mut [u8],
+    line: &[u8],
+    number: u64,
+    request: Request,
+    call: Call,
+    size: u32,
+    register: u32,
+    address: u32,
+    out: &mut [u8],
+) -> usize
+    requires { ⌜ (readLine (now line) ≡ Asked call size) × (request ≡ Asked call size) × (h .begun ≡ true) × (h .ready ≡ true) × (h .ready ≡ usable (h .state) (length (now scratch))) × (h .at + 600 ≤ length (now out)) × (call .operation ≡ Store register address) ⌝ }
+    ensures { λ r. ⌜ Taken (lineTurn (sessionOf h (now (scratch .entry))) (now (line .entry))) number (now (out .entry)) (h .at) (withAt h r) (now (scratch .exit)) (now (out .exit)) ⌝ }
+{
+    let mut buffer = [0u8; 257];
+    let n = fill(line, call, size, &mut buffer);
+    let s = h.state;
+    let room = (s.frames as usize) * 4096;
+    let answer = access::store(
+        s,
+        &mut scratch[0..room],
+        call.caller,
+        register,
+        address,
+        &buffer[0..n],
+    );
+    replies::put_line(out, h.at, number, request, answer, &buffer[0..n])
+}
+
+// A call that leaves the tables is answered, where check 1 holds.
+fn answer_call(
+    h: Host,
+    scratch: &mut [u8],
+    line: &[u8],
+    number: u64,
+    request: Request,
+    call: Call,
+    size: u32,
+    out: &mut [u8],
+) -> Answered
+    requires { ⌜ (readLine (now line) ≡ Asked call size) × (request ≡ Asked call size) × (h .begun ≡ true) × (h .ready ≡ true) × (h .ready ≡ usable (h .state) (length (now scratch))) × (h .at + 600 ≤ length (now out)) ⌝ }
+    ensures { λ r. ⌜ AnsweredTo h request (now (scratch .entry)) (now (line .entry)) number (now (out .entry)) r (now (scratch .exit)) (now (out .exit)) ⌝ }
+{
+    let operation = call.operation;
+    match operation {
+        Operation::Query { owner, name } => {
+            let s = h.state;
+            let answer = rights::query(s, call.caller, owner, name);
+            Answered::To {
+                place: put_empty(out, h.at, number, request, answer),
+            }
+        }
+        Operation::Fetch { register, address } => Answered::To {
+            place: answer_fetch(
+                h,
+                scratch,
+                line,
+                number,
+                request,
+                call,
+                size,
+                register,
+                address,
+                out,
+            ),
+        },
+        Operation::Store { register, address } => Answered::To {
+            place: answer_store(
+                h,
+                scratch,
+                line,
+                number,
+                request,
+                call,
+                size,
+                register,
+                address,
+                out,
+            ),
+        },
+        _ => Answered::NotYet,
+    }
+}
+
+// A line that has been read is answered, where that leaves the tables.
+pub fn answer(
+    h: Host,
+    scratch: &mut [u8],
+    line: &[u8],
+    number: u64,
+    request: Request,
+    out: &mut [u8],
+) -> Answered
+    requires { ⌜ (request ≡ readLine (now line)) × (h .ready ≡ usable (h .state) (length (now scratch))) × (h .at + 600 ≤ length (now out)) ⌝ }
+    ensures { λ r. ⌜ AnsweredTo h request (now (scratch .entry)) (now (line .entry)) number (now (out .entry)) r (now (scratch .exit)) (now (out .exit)) ⌝ }
+{
+    match request {
+        Request::Frames { .. } => Answered::NotYet,
+        Request::Call { call, length: size } => {
+            if !h.begun {
+                return Answered::To {
+                    place: put_empty(out, h.at, number, request, Answer::LineNotRead),
+                };
+            }
+            if !h.ready {
+                return Answered::To {
+                    place: put_empty(out, h.at, number, request, Answer::Unsound),
+                };
+            }
+            answer_call(h, scratch, line, number, request, call, size, out)
+        }
+        Request::NotRead => Answered::To {
+            place: put_empty(out, h.at, number, request, Answer::LineNotRead),
+        },
+    }
+}
+
+// A call that moves no bytes, where check 1 holds.
 fn carry(
-    mut h: Host,
+    h: Host,
     scratch: &mut [u8],
     line: &[u8],
     number: u64,
@@ -77,20 +242,14 @@ fn carry(
     size: u32,
     out: &mut [u8],
 ) -> Host
-    requires { ⌜ (readLine (now line) ≡ Asked call size) × (request ≡ Asked call size) × (h .begun ≡ true) × (h .ready ≡ usable (h .state) (length (now scratch))) × (h .at + 600 ≤ length (now out)) ⌝ }
+    requires { ⌜ (readLine (now line) ≡ Asked call size) × (request ≡ Asked call size) × (h .begun ≡ true) × (h .ready ≡ true) × (bufferFor (call .operation) size (now line) ≡ []) × (h .ready ≡ usable (h .state) (length (now scratch))) × (h .at + 600 ≤ length (now out)) ⌝ }
     ensures { λ r. ⌜ Taken (lineTurn (sessionOf h (now (scratch .entry))) (now (line .entry))) number (now (out .entry)) (h .at) r (now (scratch .exit)) (now (out .exit)) ⌝ }
 {
-    let mut buffer = [0u8; 257];
-    let n = fill(line, call, size, &mut buffer);
-    if !h.ready {
-        h.at = replies::put_line(out, h.at, number, request, Answer::Unsound, &buffer[0..n]);
-        return h;
-    }
     let s = h.state;
     let room = (s.frames as usize) * 4096;
-    let r = calls::serve(s, &mut scratch[0..room], call, &mut buffer[0..n]);
+    let r = calls::serve(s, &mut scratch[0..room], call, &mut []);
     let answer = r.answer;
-    let end = replies::put_line(out, h.at, number, request, answer, &buffer[0..n]);
+    let end = replies::put_line(out, h.at, number, request, answer, &[]);
     let after = r.state;
     Host {
         begun: true,
@@ -136,9 +295,30 @@ fn frames(mut h: Host, scratch: &[u8], number: u64, count: u32, out: &mut [u8]) 
     say(h, number, request, Answer::Done { value: 0 }, out)
 }
 
+// A line that was not answered yet.
+pub fn change(
+    h: Host,
+    scratch: &mut [u8],
+    line: &[u8],
+    number: u64,
+    request: Request,
+    out: &mut [u8],
+) -> Host
+    requires { ⌜ (request ≡ readLine (now line)) × Waiting h (now line) request × (h .ready ≡ usable (h .state) (length (now scratch))) × (h .at + 600 ≤ length (now out)) ⌝ }
+    ensures { λ r. ⌜ Taken (lineTurn (sessionOf h (now (scratch .entry))) (now (line .entry))) number (now (out .entry)) (h .at) r (now (scratch .exit)) (now (out .exit)) ⌝ }
+{
+    match request {
+        Request::Frames { frames: count } => frames(h, scratch, number, count, out),
+        Request::Call { call, length: size } => {
+            carry(h, scratch, line, number, request, call, size, out)
+        }
+        Request::NotRead => say(h, number, request, Answer::LineNotRead, out),
+    }
+}
+
 // One line, without its newline.
 pub fn take_turn(
-    h: Host,
+    mut h: Host,
     scratch: &mut [u8],
     line: &[u8],
     number: u64,
@@ -150,14 +330,12 @@ pub fn take_turn(
     ensures { λ r. ⌜ Taken (lineTurn (sessionOf h (now (scratch .entry))) (now (line .entry))) number (now (out .entry)) (h .at) r (now (scratch .exit)) (now (out .exit)) ⌝ }
 {
     let request = lines::read(line, names, shapes);
-    match request {
-        Request::Frames { frames: count } => frames(h, scratch, number, count, out),
-        Request::Call { call, length: size } => {
-            if !h.begun {
-                return say(h, number, request, Answer::LineNotRead, out);
-            }
-            carry(h, scratch, line, number, request, call, size, out)
+    let answered = answer(h, scratch, line, number, request, out);
+    match answered {
+        Answered::To { place } => {
+            h.at = place;
+            h
         }
-        Request::NotRead => say(h, number, request, Answer::LineNotRead, out),
+        Answered::NotYet => change(h, scratch, line, number, request, out),
     }
 }

@@ -2,20 +2,21 @@
 use Prim.Native.Nat.{_-_, _≤_}
 use mathlib.Core.Path.{_≡_, refl}
 use native.Mathlib.Omega.{arith}
-use lib.ListN.{length}
+use lib.ListN.{length, take, drop}
 use borrow.Author.Needs.{needs}
 use Rattle.turns.specs.Taken.{usable}
+use Rattle.turns.proofs.Waiting.{yet-waiting, yet-ready, yet-room}
 use Rattle.driver.specs.Fed.{Going}
 use Rattle.driver.proofs.Feeding.{going-start}
 use Rattle.driver.proofs.Stopped.{stop-full, stop-end, stop-part}
-use Rattle.driver.proofs.Turned.{feedAt, going-turn}
+use Rattle.driver.proofs.Turned.{feedAt, held-answered, held-changed, going-turn}
 use Rattle.driver.proofs.feed_with.Statement.{statement}
 use Rattle.driver.proofs.feed_with.Tie as tie
 
 abbrev Inv-loop : tie.InvT-loop
 Inv-loop held₀ scratch₀ input names shapes out₀ host₀ line₀ have₀ i₀ held scratch out host line have i =
     Going (feedAt host₀ scratch₀ line₀ have₀ held₀) input out₀ i (host .at) (feedAt host scratch line have held) out
-    × (host .ready ≡ usable (host .state) (length scratch)) × (have ≤ 601) × (length out ≡ length out₀) × (length scratch ≡ length scratch₀)
+    × (host .ready ≡ usable (host .state) (length scratch)) × (have ≤ 601) × (length held ≡ 601) × (length out ≡ length out₀) × (length scratch ≡ length scratch₀)
 
 abbrev μ-loop : tie.MeasureT-loop
 μ-loop held₀ scratch₀ input names shapes out₀ host₀ line₀ have₀ i₀ held scratch out host line have i = length input - i
@@ -24,7 +25,7 @@ is-usable-requires : tie.Need-is-usable-requires Inv-loop μ-loop
 is-usable-requires c κs = search needs
 
 loop-holds : tie.Need-loop-holds Inv-loop μ-loop
-loop-holds c = (going-start _ _ _, search needs, search needs, refl, refl)
+loop-holds c = (going-start _ _ _, search needs, search needs, search needs, refl, refl)
 
 sub-if1 : tie.Need-sub-if1 Inv-loop μ-loop
 sub-if1 c = search needs
@@ -37,6 +38,9 @@ same-length c = search needs
 
 same-length-2 : tie.Need-same-length-2 Inv-loop μ-loop
 same-length-2 c = search needs
+
+same-length-3 : tie.Need-same-length-3 Inv-loop μ-loop
+same-length-3 c = search needs
 
 returns : tie.Need-returns Inv-loop μ-loop
 returns c = search (stop-full, arith)
@@ -59,57 +63,137 @@ hold-requires c κs = search needs
 stand-requires-2 : tie.Need-stand-requires-2 Inv-loop μ-loop
 stand-requires-2 c κs = search needs
 
-same-length-3 : tie.Need-same-length-3 Inv-loop μ-loop
-same-length-3 c = search needs
-
 same-length-4 : tie.Need-same-length-4 Inv-loop μ-loop
-same-length-4 c = search needs
-
-returns-2 : tie.Need-returns-2 Inv-loop μ-loop
-returns-2 c = search (stop-part, arith)
-
-sub-end-line : tie.Need-sub-end-line Inv-loop μ-loop
-sub-end-line c = search needs
-
-part-end-line-start : tie.Need-part-end-line-start Inv-loop μ-loop
-part-end-line-start c = search needs
-
-part-end-line-end : tie.Need-part-end-line-end Inv-loop μ-loop
-part-end-line-end c = search needs
-
-end-line-requires : tie.Need-end-line-requires Inv-loop μ-loop
-end-line-requires c κs =
-    let asked = c .before .before .before .before .before .before .before .before .before .before .before .before .before .before .before .pre in
-    let here = c .before .before .before .before .before .before .before .before .before .loop .inv in
-    (asked .0, asked .1, search needs, here .2, here .1, omega arith)
-
-wrapping-add-u64-requires : tie.Need-wrapping-add-u64-requires Inv-loop μ-loop
-wrapping-add-u64-requires c κs = search needs
-
-add-i : tie.Need-add-i Inv-loop μ-loop
-add-i c =
-    let sizes = c .before .before .before .before .before .before .before .before .before .before .before .before .before .before .before .before .before .before .before .before .before .good in
-    omega (arith, sizes)
-
-loop-less : tie.Need-loop-less Inv-loop μ-loop
-loop-less c = search needs
-
-loop-again : tie.Need-loop-again Inv-loop μ-loop
-loop-again c =
-    let here = c .before .before .before .before .before .before .before .before .before .before .before .before .before .before .before .loop .inv in
-    let end = c .before .before .before .before .before .before .before .before .before .before .before .line-end .ensures in
-    let t = c .before .before .before .before .before .end-line .ensures in
-    let n = c .wrapping-add-u64 .ensures in
-    (going-turn _ _ _ _ _ _ _ _ _ _ _ _ _ _ _ (here .0) (end .0) (end .1) (omega arith) (here .2) t n, search needs, search needs, search needs, search needs)
-
-stand-requires-3 : tie.Need-stand-requires-3 Inv-loop μ-loop
-stand-requires-3 c κs = search needs
+same-length-4 c =
+    let here = c .before .before .before .before .before .before .before .before .before .before .before .loop .inv in
+    let asked = c .before .before .before .before .before .before .before .before .before .before .before .before .before .before .before .before .before .before .pre in
+    let kept = c .before .before .before .held .given in
+    omega (arith, here .3, asked .2, kept)
 
 same-length-5 : tie.Need-same-length-5 Inv-loop μ-loop
 same-length-5 c = search needs
 
 same-length-6 : tie.Need-same-length-6 Inv-loop μ-loop
 same-length-6 c = search needs
+
+returns-2 : tie.Need-returns-2 Inv-loop μ-loop
+returns-2 c = search (stop-part, arith)
+
+wrapping-add-u64-requires : tie.Need-wrapping-add-u64-requires Inv-loop μ-loop
+wrapping-add-u64-requires c κs = search needs
+
+add-i : tie.Need-add-i Inv-loop μ-loop
+add-i c =
+    let sizes = c .before .before .before .before .before .before .before .before .before .before .before .before .before .before .before .before .before .before .good in
+    omega (arith, sizes)
+
+sub-read : tie.Need-sub-read Inv-loop μ-loop
+sub-read c = search needs
+
+part-read-start : tie.Need-part-read-start Inv-loop μ-loop
+part-read-start c = search needs
+
+part-read-end : tie.Need-part-read-end Inv-loop μ-loop
+part-read-end c = search needs
+
+read-requires : tie.Need-read-requires Inv-loop μ-loop
+read-requires c κs = search needs
+
+sub-answer : tie.Need-sub-answer Inv-loop μ-loop
+sub-answer c = search needs
+
+part-answer-start : tie.Need-part-answer-start Inv-loop μ-loop
+part-answer-start c = search needs
+
+part-answer-end : tie.Need-part-answer-end Inv-loop μ-loop
+part-answer-end c = search needs
+
+answer-requires : tie.Need-answer-requires Inv-loop μ-loop
+answer-requires c κs =
+    let here = c .before .before .before .before .before .before .before .before .before .before .before .before .before .before .before .before .before .before .loop .inv in
+    let room = c .before .before .before .before .before .before .before .before .before .before .before .before .before .before .before .if1 .left in
+    let read = c .before .before .before .before .read .ensures in
+    (read, here .1, omega (arith, room))
+
+enum-known-answered : tie.Need-enum-known-answered Inv-loop μ-loop
+enum-known-answered c = search needs
+
+loop-less : tie.Need-loop-less Inv-loop μ-loop
+loop-less c = search needs
+
+loop-again : tie.Need-loop-again Inv-loop μ-loop
+loop-again c =
+    let here = c .before .before .before .before .before .before .before .before .before .before .before .before .before .before .before .before .before .before .before .before .before .before .before .before .before .before .loop .inv in
+    let end = c .before .before .before .before .before .before .before .before .before .before .before .before .before .before .before .before .before .before .before .before .before .before .line-end .ensures in
+    let test = c .before .before .before .before .before .before .before .before .before .before .before .before .before .before .before .before .if2 .left in
+    let kept = c .before .before .before .before .before .before .before .before .before .before .before .before .before .before .before .before .before .before .before .hold .ensures in
+    let long = c .before .before .before .before .before .before .before .before .before .before .before .before .before .before .before .before .before .before .held .given in
+    let number = c .before .before .before .before .before .before .before .before .before .before .before .before .before .before .before .wrapping-add-u64 .ensures in
+    let answered = c .before .before .before .before .before .before .before .answer .ensures in
+    let loop = c .before .before .before .before .before .before .before .before .before .before .before .before .before .before .before .before .before .before .before .before .before .before .before .before .before .before .loop in
+    let part = c .before .before .before .before .before .before .before .before .before .before .before .before .before .before .before .before .before .before .before .hold in
+    let found = c .before .before .before .before .before .before .before .before .before .before .before .before .before .before .before .before .before .before .before .before .before .before .line-end .result in
+    let input = c .before .before .before .before .before .before .before .before .before .before .before .before .before .before .before .before .before .before .before .before .before .before .before .before .before .before .before .before .before .before .before .before .before .args .input .now in
+    let told = c .before .answered .given .1 in
+    let t = held-answered _ _ _ (loop .held) (part .last .0) (take (found - loop .i) (drop (loop .i) input)) _ _ _ (loop .have) (part .result) _ _ _ (kept .0) answered told in
+    (going-turn _ _ _ _ _ _ _ _ _ _ _ _ _ _ _ (here .0) (end .0) (end .1) (omega (arith, end .2, test)) (here .2) t number, t .ready, search needs, omega (arith, here .3, long), search needs, search needs)
+
+enum-told : tie.Need-enum-told Inv-loop μ-loop
+enum-told c = search needs
+
+sub-change : tie.Need-sub-change Inv-loop μ-loop
+sub-change c = search needs
+
+part-change-start : tie.Need-part-change-start Inv-loop μ-loop
+part-change-start c = search needs
+
+part-change-end : tie.Need-part-change-end Inv-loop μ-loop
+part-change-end c = search needs
+
+change-requires : tie.Need-change-requires Inv-loop μ-loop
+change-requires c κs =
+    let here = c .before .before .before .before .before .before .before .before .before .before .before .before .before .before .before .before .before .before .before .before .before .before .before .before .before .before .before .before .before .loop .inv in
+    let room = c .before .before .before .before .before .before .before .before .before .before .before .before .before .before .before .before .before .before .before .before .before .before .before .before .before .before .if1 .left in
+    let read = c .before .before .before .before .before .before .before .before .before .before .before .before .before .before .before .read .ensures in
+    let answered = c .before .before .before .before .before .before .before .before .before .before .answer .ensures in
+    let told = c .before .before .before .before .enum-told .given .1 in
+    (read, yet-waiting _ _ _ _ _ _ _ _ _ answered told, yet-ready _ _ _ _ _ _ _ _ _ answered told (here .1), yet-room _ _ _ _ _ _ _ _ _ answered told (omega (arith, room)))
+
+loop-less-2 : tie.Need-loop-less-2 Inv-loop μ-loop
+loop-less-2 c =
+    let end = c .before .before .before .before .before .before .before .before .before .before .before .before .before .before .before .before .before .before .before .before .before .before .before .before .before .before .before .before .before .before .line-end .ensures in
+    let less = c .before .before .before .before .before .before .before .before .before .before .before .before .before .before .before .before .before .before .before .before .before .before .before .before .before .before .before .before .before .before .before .before .before .loop-test .taken in
+    omega (arith, end .1, less)
+
+loop-again-2 : tie.Need-loop-again-2 Inv-loop μ-loop
+loop-again-2 c =
+    let here = c .before .before .before .before .before .before .before .before .before .before .before .before .before .before .before .before .before .before .before .before .before .before .before .before .before .before .before .before .before .before .before .before .before .before .loop .inv in
+    let end = c .before .before .before .before .before .before .before .before .before .before .before .before .before .before .before .before .before .before .before .before .before .before .before .before .before .before .before .before .before .before .line-end .ensures in
+    let test = c .before .before .before .before .before .before .before .before .before .before .before .before .before .before .before .before .before .before .before .before .before .before .before .before .if2 .left in
+    let kept = c .before .before .before .before .before .before .before .before .before .before .before .before .before .before .before .before .before .before .before .before .before .before .before .before .before .before .before .hold .ensures in
+    let long = c .before .before .before .before .before .before .before .before .before .before .before .before .before .before .before .before .before .before .before .before .before .before .before .before .before .before .held .given in
+    let number = c .before .before .before .before .before .before .before .before .before .before .before .before .before .before .before .before .before .before .before .before .before .before .before .wrapping-add-u64 .ensures in
+    let answered = c .before .before .before .before .before .before .before .before .before .before .before .before .before .before .before .answer .ensures in
+    let loop = c .before .before .before .before .before .before .before .before .before .before .before .before .before .before .before .before .before .before .before .before .before .before .before .before .before .before .before .before .before .before .before .before .before .before .loop in
+    let part = c .before .before .before .before .before .before .before .before .before .before .before .before .before .before .before .before .before .before .before .before .before .before .before .before .before .before .before .hold in
+    let found = c .before .before .before .before .before .before .before .before .before .before .before .before .before .before .before .before .before .before .before .before .before .before .before .before .before .before .before .before .before .before .line-end .result in
+    let input = c .before .before .before .before .before .before .before .before .before .before .before .before .before .before .before .before .before .before .before .before .before .before .before .before .before .before .before .before .before .before .before .before .before .before .before .before .before .before .before .before .before .args .input .now in
+    let told = c .before .before .before .before .before .before .before .before .before .enum-told .given .1 in
+    let changed = c .before .before .before .before .change .ensures in
+    let t = held-changed _ _ _ (loop .held) (part .last .0) (take (found - loop .i) (drop (loop .i) input)) _ _ _ (loop .have) (part .result) _ _ _ _ _ (kept .0) answered told changed in
+    (going-turn _ _ _ _ _ _ _ _ _ _ _ _ _ _ _ (here .0) (end .0) (end .1) (omega (arith, end .2, test)) (here .2) t number, t .ready, search needs, omega (arith, here .3, long), search needs, search needs)
+
+stand-requires-3 : tie.Need-stand-requires-3 Inv-loop μ-loop
+stand-requires-3 c κs = search needs
+
+same-length-7 : tie.Need-same-length-7 Inv-loop μ-loop
+same-length-7 c = search needs
+
+same-length-8 : tie.Need-same-length-8 Inv-loop μ-loop
+same-length-8 c = search needs
+
+same-length-9 : tie.Need-same-length-9 Inv-loop μ-loop
+same-length-9 c = search needs
 
 returns-3 : tie.Need-returns-3 Inv-loop μ-loop
 returns-3 c = search (stop-end, arith)
@@ -126,6 +210,7 @@ feed-with-spec =
     stand-requires
     same-length
     same-length-2
+    same-length-3
     returns
     line-end-requires
     sub-hold
@@ -133,18 +218,32 @@ feed-with-spec =
     part-hold-end
     hold-requires
     stand-requires-2
-    same-length-3
     same-length-4
-    returns-2
-    sub-end-line
-    part-end-line-start
-    part-end-line-end
-    end-line-requires
-    wrapping-add-u64-requires
-    add-i
-    loop-less
-    loop-again
-    stand-requires-3
     same-length-5
     same-length-6
+    returns-2
+    wrapping-add-u64-requires
+    add-i
+    sub-read
+    part-read-start
+    part-read-end
+    read-requires
+    sub-answer
+    part-answer-start
+    part-answer-end
+    answer-requires
+    enum-known-answered
+    loop-less
+    loop-again
+    enum-told
+    sub-change
+    part-change-start
+    part-change-end
+    change-requires
+    loop-less-2
+    loop-again-2
+    stand-requires-3
+    same-length-7
+    same-length-8
+    same-length-9
     returns-3)
