@@ -3,18 +3,16 @@ ghost use Prim.Native.Nat.{_≤_, _<_};
 ghost use mathlib.Core.Bool.{true};
 ghost use mathlib.Core.Path.{_≡_};
 ghost use Rattle.access.specs.Translated.{tokenPlace, translatedBy};
-ghost use Rattle.model.specs.Tokens.{malformed as malformedBy, tokenUsed};
+ghost use Rattle.model.specs.Tokens.{tokenUsed};
 ghost use Rattle.model.specs.Translation.{throughStanding};
 use model::Answer;
+use model::BASE;
 use model::Cpu;
 use model::Entry;
 use model::Right;
 use model::Space;
 use model::Standing;
 use model::Translation;
-
-// The name of a primary space: BASE and four blanks.
-const BASE: u64 = 4774188636346261536;
 
 // In primary mode, and for register 0, what was loaded is not looked at.
 pub fn token_used(c: Cpu, register: u32) -> u32
@@ -28,21 +26,6 @@ pub fn token_used(c: Cpu, register: u32) -> u32
         return 0;
     }
     c.registers[register as usize]
-}
-
-fn malformed(token: u32) -> bool
-    ensures { λ r. ⌜ r ≡ malformedBy token ⌝ }
-{
-    if token == 0 {
-        return false;
-    }
-    if 16777216 <= token {
-        return true;
-    }
-    if token % 65536 < 2 {
-        return true;
-    }
-    31 < token % 65536
 }
 
 fn through(e: Entry) -> Translation
@@ -83,7 +66,7 @@ pub fn translate(spaces: [Space; 32], list: u8, e: Entry, guest: u32, token: u32
             right: Right::Write,
         };
     }
-    if malformed(token) {
+    if entries::is_malformed(token) {
         return Translation::Refused(Answer::AletSpecification);
     }
     if list as u32 + 1 < token % 65536 {

@@ -6,6 +6,7 @@ ghost use Rattle.lookup.specs.Meeting.{meets as meetsRun, meetingSlot};
 ghost use Rattle.model.specs.Leaves.{callerPlace};
 ghost use Rattle.model.specs.Searches.{isSpace, isOwned, isNamed, isData, slotOf, slotNamed, freeSlot, dataSpaces, freeEntry, runIn};
 ghost use Rattle.model.specs.Tables.{live};
+use model::BASE;
 use model::Entry;
 use model::Guest;
 use model::Space;
@@ -68,7 +69,7 @@ pub fn is_data(x: Space, owner: u32) -> bool
     if !is_owned(x, owner) {
         return false;
     }
-    x.name != 4774188636346261536
+    x.name != BASE
 }
 
 // The slot of the live space with that identification.

@@ -11,6 +11,7 @@ ghost use Rattle.model.specs.SoundTest.{sound};
 ghost use Rattle.model.specs.Tables.{withGuests};
 ghost use Rattle.model.specs.declared.Operation.the-variants.{Enrol, Create};
 use model::Answer;
+use model::BASE;
 use model::Caller;
 use model::Guest;
 use model::Kind;
@@ -223,5 +224,5 @@ pub fn enrol(
         list: list as u8,
         asf: asf == 1,
     };
-    make(s, gs, scratch, caller.guest, 4774188636346261536, pages)
+    make(s, gs, scratch, caller.guest, BASE, pages)
 }

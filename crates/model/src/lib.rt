@@ -1,6 +1,9 @@
 // The types of the space manager. What they mean is defined in specs/, under the headings of paper 01.
 // Numbers of guests are 1 to 8, of slots 0 to 31, of entries 2 to 31.
 
+// The name of a primary space: BASE and four blanks.
+pub const BASE: u64 = 0x4241534520202020;
+
 pub enum Right {
     Read,
     Write,

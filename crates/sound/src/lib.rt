@@ -9,6 +9,7 @@ ghost use Rattle.model.specs.SoundTest.{sound, headTest, deadTest, framesApart,
 ghost use Rattle.names.specs.Later.{LaterTable};
 ghost use Rattle.sound.specs.Columns.{Filled, Slots, tagCount, guestsWith, numberAt, mayAt, rowsWith, Owners, Permits, Powers, standingsWith, aboveTest};
 ghost use Rattle.sound.specs.Elements.{placeOf, liveWith, slotWith, tagOf, guestWith, grantNumber, rightRank, mayBe, powerWith, validWith, standingWith};
+use model::BASE;
 use model::Cpu;
 use model::Entry;
 use model::Grant;
@@ -93,7 +94,7 @@ fn slot_ok(table: &[u8; 256], x: Space, o: Guest, frames: u32, next: u32) -> boo
 fn tag(x: Space) -> u8
     ensures { λ r. ⌜ (r ≡ tagOf x) × (r < 32) ⌝ }
 {
-    if x.name == 4774188636346261536 {
+    if x.name == BASE {
         return x.owner % 16 + 16;
     }
     x.owner % 16

@@ -15,6 +15,7 @@ ghost use Rattle.model.specs.Tables.{noSpace, noPermit};
 ghost use Rattle.model.specs.declared.Operation.the-variants.{Destroy, Isolate, Reset};
 ghost use Rattle.withdrawing.specs.Sets.{IsSet, Sets, ownedSlots, dataSlots, lookPlace, losesTo, revokedEntry};
 use model::Answer;
+use model::BASE;
 use model::Caller;
 use model::Entry;
 use model::Grant;
@@ -23,9 +24,6 @@ use model::Reply;
 use model::Space;
 use model::Standing;
 use model::State;
-
-// The name of a primary space, BASE and four blanks.
-const BASE: u64 = 4774188636346261536;
 
 fn space_unless(x: Space, gone: bool) -> Space
     ensures { λ r. ⌜ r ≡ choose gone noSpace x ⌝ }

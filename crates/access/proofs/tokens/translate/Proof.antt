@@ -16,8 +16,8 @@ returns : tie.Need-returns
 unfolding translatedBy assignedTo
 returns c = search (translation, tests) depth 8
 
-malformed-requires : tie.Need-malformed-requires
-malformed-requires c κs = search needs
+is-malformed-requires : tie.Need-is-malformed-requires
+is-malformed-requires c κs = search needs
 
 returns-2 : tie.Need-returns-2
 unfolding translatedBy assignedTo
@@ -51,7 +51,7 @@ translate-spec =
     find-named-requires
     cast-t8
     returns
-    malformed-requires
+    is-malformed-requires
     returns-2
     add-if3
     returns-3
