@@ -1,3 +1,4 @@
+pub mod Marks
 pub mod Rings
 pub mod Warns
 pub mod Whole

@@ -19,23 +19,29 @@ module _ (f : ℕ → ℕ) (c : List ℕ) where
     ring = record { long = e; near = λ u l. absurd (omega arith); far = λ u l. absurd (omega arith) };
   }
 
-  pub ring-go : (n m : ℕ) → n < 32 → m ≡ f n → Filling f n c → Filling f (n + 1) (set (set c n m) (n + 32) m)
-  ring-go n m l e h = record {
-    below = omega arith;
-    ring = record {
-      long = length-set (set c n m) (n + 32) m ∙ len;
-      near = λ u b. at-set (λ y. y ≡ f u) (set c n m) (n + 32) m u 0 (omega (arith, len)) (λ q. absurd (omega arith)) (λ _. once (λ y. y ≡ f u) u (omega arith) (λ q. e ∙ ap f (sym q)) (λ q. h .ring .near u (omega arith)));
-      far = λ u b. at-set (λ y. y ≡ f u) (set c n m) (n + 32) m (u + 32) 0 (omega (arith, len)) (λ q. e ∙ ap f (omega arith)) (λ q. once (λ y. y ≡ f u) (u + 32) (omega arith) (λ p. absurd (omega arith)) (λ _. h .ring .far u (omega arith)));
-    };
-  }
-    where
-      len : length (set c n m) ≡ 64
-      len = length-set c n m ∙ h .ring .long
-
-      once : (P : ℕ → Type 0) (k : ℕ) → k < 64 → (k ≡ n → P m) → ((k ≡ n → ⊥) → P (getD c k 0)) → P (getD (set c n m) k 0)
-      once P k b = at-set P c n m k 0 (omega (arith, h .ring .long))
-
   pub ring-end : (n : ℕ) → 32 ≤ n → Filling f n c → Ring f 32 c
   ring-end n l h = record { long = h .ring .long; near = λ u b. h .ring .near u (omega arith); far = λ u b. h .ring .far u (omega arith) }
 
-pub ruleset rings = (ring-start, ring-go, ring-end)
+  module _ (n m : ℕ) (l : n < 32) (e : m ≡ f n) (h : Filling f n c) where
+    -- the first of the two writes
+    once : (u k : ℕ) → k < 64 → (k ≡ n → m ≡ f u) → ((k ≡ n → ⊥) → getD c k 0 ≡ f u) → getD (set c n m) k 0 ≡ f u
+    once u k b = at-set (λ y. y ≡ f u) c n m k 0 (omega (arith, h .ring .long))
+
+    len : length (set c n m) ≡ 64
+    len = length-set c n m ∙ h .ring .long
+
+    twice : (u k : ℕ) → k < 64 → (k ≡ n + 32 → m ≡ f u) → ((k ≡ n + 32 → ⊥) → getD (set c n m) k 0 ≡ f u) → getD (set (set c n m) (n + 32) m) k 0 ≡ f u
+    twice u k b = at-set (λ y. y ≡ f u) (set c n m) (n + 32) m k 0 (omega (arith, len))
+
+    both-set : Filling f (n + 1) (set (set c n m) (n + 32) m)
+    both-set = record {
+      below = omega arith;
+      ring = record {
+        long = length-set (set c n m) (n + 32) m ∙ len;
+        near = λ u b. twice u u (omega arith) (λ q. absurd (omega arith)) (λ _. once u u (omega arith) (λ q. e ∙ ap f (sym q)) (λ q. h .ring .near u (omega arith)));
+        far = λ u b. twice u (u + 32) (omega arith) (λ q. e ∙ ap f (omega arith)) (λ q. once u (u + 32) (omega arith) (λ p. absurd (omega arith)) (λ _. h .ring .far u (omega arith)));
+      };
+    }
+
+    pub ring-go : (t : List ℕ) → t ≡ set (set c n m) (n + 32) m → Filling f (n + 1) t
+    ring-go t q = rw (← q) at both-set

@@ -6,8 +6,6 @@ use mathlib.Core.Path.{_≡_}
 use native.Mathlib.Decide.{ℕ-discrete}
 use native.Mathlib.Omega.{arith}
 use lib.ListN.{getD}
-use mir.Syntax.{w16}
-use mir.Val.{Fits}
 use Rattle.apart.specs.Warns.{Warns, Below, Parted, ClearIn}
 
 -- a sum r of i counts, each at most m, out of e; where it is 0, P holds of each of the numbers below i

@@ -1,6 +1,6 @@
 -- The numbers of 16 bits that stand for a space where two spaces are held against each other. Where two live spaces clash,
 -- their numbers do; numbers may also clash where the spaces don't, and then the quick test is unsure.
-use Prim.Native.Nat.{ℕ, _+_, _-_, _*_, _%_}
+use Prim.Native.Nat.{ℕ, _+_, _-_, _*_, _/_, _%_}
 use lib.Dec.{ltb}
 use Rattle.lists.specs.Choice.{choose}
 use Rattle.model.specs.declared.Space.{Space}
@@ -14,9 +14,13 @@ markOf x u m = choose (live x) m (65535 - u)
 unfoldable pub idMark : Space → (slot : ℕ) → ℕ
 idMark x u = markOf x u (x .id % 65536)
 
--- the same for the same owner and name; the two factors spread the names that guests use
+-- any other function of the two would do; this one is quick, and seldom the same for the names that guests use
+abbrev pub spreadOf : (owner name : ℕ) → ℕ
+spreadOf o n = ((n % 4294967296 * 1640531527 + n / 4294967296 * 2146121005) / 16777216 % 65536 + o * 8191) % 65536
+
+-- the same for the same owner and name
 unfoldable pub nameMark : Space → (slot : ℕ) → ℕ
-nameMark x u = markOf x u ((x .name % 65521 + x .owner * 8191) % 65536)
+nameMark x u = markOf x u (spreadOf (x .owner) (x .name))
 
 unfoldable pub cut : (most n : ℕ) → ℕ
 cut m n = choose (ltb m n) m n

@@ -5,9 +5,9 @@ ghost use Prim.Native.Nat.{_+_, _≤_, _<_};
 ghost use mathlib.Core.Bool.{true};
 ghost use mathlib.Core.Logic.{_≢_};
 ghost use mathlib.Core.Path.{_≡_};
+ghost use lib.ListN.{length, set};
 ghost use Rattle.model.specs.SoundTest.{apartTest};
-ghost use Rattle.apart.specs.Marks.{idMark, nameMark, cut, firstMark, endMark};
-ghost use Rattle.apart.specs.Rings.{Ring, idsOf, namesOf, firstsOf, endsOf};
+ghost use Rattle.apart.specs.Marks.{idMark, spreadOf, nameMark, cut, firstMark, endMark};
 ghost use Rattle.apart.specs.Warns.{Warns, Below, Parted, ClearAt};
 use model::Space;
 
@@ -21,6 +21,14 @@ fn id_mark(x: Space, u: usize) -> u16
     (x.id % 65536) as u16
 }
 
+// Spreads owners and names over the numbers of 16 bits; any other function of the two would do.
+fn spread(owner: u8, name: u64) -> u16
+    ensures { λ r. ⌜ r ≡ spreadOf owner name ⌝ }
+{
+    let n = name % 4294967296 * 1640531527 + name / 4294967296 * 2146121005;
+    ((n / 16777216 % 65536 + (owner as u64) * 8191) % 65536) as u16
+}
+
 fn name_mark(x: Space, u: usize) -> u16
     requires { ⌜ u < 32 ⌝ }
     ensures { λ r. ⌜ r ≡ nameMark x u ⌝ }
@@ -28,7 +36,7 @@ fn name_mark(x: Space, u: usize) -> u16
     if x.id == 0 {
         return (65535 - u) as u16;
     }
-    ((x.name % 65521 + (x.owner as u64) * 8191) % 65536) as u16
+    spread(x.owner, x.name)
 }
 
 fn at_most(most: u32, n: u32) -> u16
@@ -53,56 +61,13 @@ fn end_mark(x: Space) -> u16
     at_most(65535, (x.first as u32) + (x.pages as u32))
 }
 
-fn id_marks(spaces: [Space; 32]) -> [u16; 64]
-    ensures { λ r. ⌜ Ring (idsOf spaces) 32 r ⌝ }
+// A mark goes to both places of its slot.
+fn put(column: &mut [u16; 64], u: usize, m: u16)
+    requires { ⌜ (u < 32) × (length (now column) ≡ 64) ⌝ }
+    ensures { λ r. ⌜ now (column .exit) ≡ set (set (now (column .entry)) u m) (u + 32) m ⌝ }
 {
-    let mut column = [0u16; 64];
-    for u in 0..32usize {
-        let x = spaces[u];
-        let m = id_mark(x, u);
-        column[u] = m;
-        column[u + 32] = m;
-    }
-    column
-}
-
-fn name_marks(spaces: [Space; 32]) -> [u16; 64]
-    ensures { λ r. ⌜ Ring (namesOf spaces) 32 r ⌝ }
-{
-    let mut column = [0u16; 64];
-    for u in 0..32usize {
-        let x = spaces[u];
-        let m = name_mark(x, u);
-        column[u] = m;
-        column[u + 32] = m;
-    }
-    column
-}
-
-fn first_marks(spaces: [Space; 32]) -> [u16; 64]
-    ensures { λ r. ⌜ Ring (firstsOf spaces) 32 r ⌝ }
-{
-    let mut column = [0u16; 64];
-    for u in 0..32usize {
-        let x = spaces[u];
-        let m = first_mark(x);
-        column[u] = m;
-        column[u + 32] = m;
-    }
-    column
-}
-
-fn end_marks(spaces: [Space; 32]) -> [u16; 64]
-    ensures { λ r. ⌜ Ring (endsOf spaces) 32 r ⌝ }
-{
-    let mut column = [0u16; 64];
-    for u in 0..32usize {
-        let x = spaces[u];
-        let m = end_mark(x);
-        column[u] = m;
-        column[u + 32] = m;
-    }
-    column
+    column[u] = m;
+    column[u + 32] = m;
 }
 
 fn same(a: u16, b: u16) -> u16
@@ -163,12 +128,20 @@ fn clashes<'a>(
     n
 }
 
+// Says yes only where they are. One pass over the slots fills the columns.
 pub fn surely_apart(spaces: [Space; 32]) -> bool
     ensures { λ r. ⌜ (r ≡ true → apartTest spaces ≡ true) ⌝ }
 {
-    let ids = id_marks(spaces);
-    let names = name_marks(spaces);
-    let firsts = first_marks(spaces);
-    let ends = end_marks(spaces);
+    let mut ids = [0u16; 64];
+    let mut names = [0u16; 64];
+    let mut firsts = [0u16; 64];
+    let mut ends = [0u16; 64];
+    for u in 0..32usize {
+        let x = spaces[u];
+        put(&mut ids, u, id_mark(x, u));
+        put(&mut names, u, name_mark(x, u));
+        put(&mut firsts, u, first_mark(x));
+        put(&mut ends, u, end_mark(x));
+    }
     clashes(&ids, &names, &firsts, &ends) == 0
 }

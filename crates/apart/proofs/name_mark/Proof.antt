@@ -15,31 +15,12 @@ returns : tie.Need-returns
 unfolding nameMark
 returns c = search tests depth 6
 
-cast-result-2 : tie.Need-cast-result-2
-cast-result-2 c = search needs
-
-mul-result : tie.Need-mul-result
-mul-result c = search needs
-
-add-result : tie.Need-add-result
-add-result c = search needs
-
-cast-result-3 : tie.Need-cast-result-3
-cast-result-3 c = search needs
+spread-requires : tie.Need-spread-requires
+spread-requires c κs = search needs
 
 returns-2 : tie.Need-returns-2
 unfolding nameMark
 returns-2 c = search tests depth 6
 
 pub name-mark-spec : {M : Type 1} → statement M
-name-mark-spec =
-    tie.close
-    (tie.spec
-    sub-result
-    cast-result
-    returns
-    cast-result-2
-    mul-result
-    add-result
-    cast-result-3
-    returns-2)
+name-mark-spec = tie.close (tie.spec sub-result cast-result returns spread-requires returns-2)
