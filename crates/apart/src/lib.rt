@@ -11,6 +11,7 @@ ghost use Rattle.apart.specs.Marks.{idMark, spreadOf, nameMark, cut, fir
 ghost use Rattle.apart.specs.Warns.{Warns, Below, Parted, ClearAt};
 use model::Space;
 
+// A slot without a live space gets a number of its own, so that two such slots don't clash.
 fn id_mark(x: Space, u: usize) -> u16
     requires { ⌜ u < 32 ⌝ }
     ensures { λ r. ⌜ r ≡ idMark x u ⌝ }
@@ -49,6 +50,7 @@ fn at_most(most: u32, n: u32) -> u16
     n as u16
 }
 
+// Both ends of a run have to fit 16 bits. A first frame is cut lower, so that no end that was cut seems to lie before it.
 fn first_mark(x: Space) -> u16
     ensures { λ r. ⌜ r ≡ firstMark x ⌝ }
 {
@@ -128,7 +130,7 @@ fn clashes<'a>(
     n
 }
 
-// Says yes only where they are. One pass over the slots fills the columns.
+// Says yes only of spaces that stand apart. One pass over the slots fills the columns.
 pub fn surely_apart(spaces: [Space; 32]) -> bool
     ensures { λ r. ⌜ (r ≡ true → apartTest spaces ≡ true) ⌝ }
 {
