@@ -1,5 +1,6 @@
 // A sound state with one clause of soundness broken, each alone.
 use crate::states;
+use model::BASE;
 use model::Entry;
 use model::Grant;
 use model::Permit;
@@ -40,7 +41,7 @@ fn live_space(mut s: State, k: u32) -> State {
         8 => x.id = 4,
         9 => x.id = 1,
         10 => x.name = 0x74454d5020202020,
-        _ => x.name = states::base(),
+        _ => x.name = BASE,
     }
     s.spaces[2] = x;
     s
@@ -207,7 +208,7 @@ fn say_list_entry(k: u32) {
     ;
 }
 
-pub fn state(s: State, k: u32) -> State {
+pub(crate) fn state(s: State, k: u32) -> State {
     if k < 4 {
         return head(s, k);
     }
@@ -229,7 +230,7 @@ pub fn state(s: State, k: u32) -> State {
     list_entry(s, k)
 }
 
-pub fn say(k: u32) {
+pub(crate) fn say(k: u32) {
     if k < 4 {
         return say_head(k);
     }

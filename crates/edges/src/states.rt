@@ -3,16 +3,12 @@ use model::Caller;
 use model::Right;
 use model::State;
 
-pub fn base() -> u64 {
-    0x4241534520202020
-}
-
-pub fn temp() -> u64 {
+pub(crate) fn temp() -> u64 {
     0x54454d5020202020
 }
 
 // N00, N01, .. N99
-pub fn name(n: u32) -> u64 {
+pub(crate) fn name(n: u32) -> u64 {
     let tens = (n / 10 % 10 + 48) as u64;
     let ones = (n % 10 + 48) as u64;
     0x4e00002020202020 + tens * 0x1000000000000 + ones * 0x10000000000
@@ -33,7 +29,7 @@ fn enrolled(
 
 // 8 frames. Guest 1 shares and has ASF; its space TEMP, identification 3 in slot 2, is permitted to guest 2 with read, and guest 2
 // has added it. Guest 2 neither shares nor has ASF. Each has a primary: identifications 1 and 2 in slots 0 and 1.
-pub fn shared() -> State {
+pub(crate) fn shared() -> State {
     let mut scratch = [0u8; 32768];
     let one = Caller { guest: 1 };
     let two = Caller { guest: 2 };
@@ -64,14 +60,14 @@ fn all_created(before: State) -> State {
 
 // 32 frames and 32 spaces: guest 1's primary and 30 data spaces of its allowance of 31, and guest 2's primary, with no
 // allowance.
-pub fn full() -> State {
+pub(crate) fn full() -> State {
     let mut scratch = [0u8; 131072];
     let a = enrolled(spaces::fresh(32).state, &mut scratch, 1, 31, 0, 0);
     all_created(enrolled(a, &mut scratch, 2, 0, 0, 0))
 }
 
 // 3 frames, of which guest 1's primary has the middle one.
-pub fn middle_used() -> State {
+pub(crate) fn middle_used() -> State {
     let mut scratch = [0u8; 12288];
     let mut s = enrolled(spaces::fresh(3).state, &mut scratch, 1, 2, 0, 0);
     let mut x = s.spaces[0];

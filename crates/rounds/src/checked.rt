@@ -103,7 +103,7 @@ fn writing(s: State, scratch: &mut [u8], bytes: &[u8], call: u32, size: u32, n: 
     sum
 }
 
-pub fn rounds(
+pub(crate) fn rounds(
     s: State,
     scratch: &mut [u8],
     buffer: &mut [u8],

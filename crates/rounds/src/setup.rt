@@ -20,7 +20,7 @@ const SPACE2: u64 = 6003370060464398368;
 const SPACE3: u64 = 6003370060464463904;
 
 // The name of one of a guest's data spaces: SPACE and its digit, then two blanks.
-pub fn name(k: u32) -> u64 {
+pub(crate) fn name(k: u32) -> u64 {
     if k == 1 {
         return SPACE1;
     }
@@ -154,16 +154,16 @@ fn after(scratch: &mut [u8], last: u32, calls: u32) -> State {
 }
 
 // Full tables: 8 guests, 32 spaces, 512 frames used, 224 permits, 240 valid entries.
-pub fn full(scratch: &mut [u8]) -> State {
+pub(crate) fn full(scratch: &mut [u8]) -> State {
     after(scratch, 8, FILLING)
 }
 
 // Nothing of guest 8: its ENROL can be done.
-pub fn without_one_guest(scratch: &mut [u8]) -> State {
+pub(crate) fn without_one_guest(scratch: &mut [u8]) -> State {
     after(scratch, 7, FILLING)
 }
 
 // A slot, its 16 frames and the last entry of each list are free: one more CREATE and one more ADD can be done.
-pub fn with_room(scratch: &mut [u8]) -> State {
+pub(crate) fn with_room(scratch: &mut [u8]) -> State {
     after(scratch, 8, FREEING)
 }

@@ -37,7 +37,7 @@ pub const SOUND: u32 = 14;
 pub const NEW: u64 = 6003370060464529440;
 
 // ENROL, CREATE and STORE change scratch.
-pub fn writes(call: u32) -> bool {
+pub(crate) fn writes(call: u32) -> bool {
     if call == ENROL {
         return true;
     }
@@ -47,36 +47,36 @@ pub fn writes(call: u32) -> bool {
     call == STORE
 }
 
-pub fn caller(i: u32) -> Caller {
+pub(crate) fn caller(i: u32) -> Caller {
     Caller { guest: i % 8 + 1 }
 }
 
 // The guest that is not enrolled yet where one is to be.
-pub fn newcomer() -> Caller {
+pub(crate) fn newcomer() -> Caller {
     Caller { guest: 8 }
 }
 
 // The identification of one of the caller's spaces, the primary among them.
-pub fn own(i: u32) -> u32 {
+pub(crate) fn own(i: u32) -> u32 {
     i % 8 * 4 + i / 8 % 4 + 1
 }
 
 // The same of its data spaces alone.
-pub fn own_data(i: u32) -> u32 {
+pub(crate) fn own_data(i: u32) -> u32 {
     i % 8 * 4 + i / 8 % 3 + 2
 }
 
 // Any space but the last, which is not there where one more ADD is to be done.
-pub fn any(i: u32) -> u32 {
+pub(crate) fn any(i: u32) -> u32 {
     i % 31 + 1
 }
 
 // A guest that is not the caller.
-pub fn other(i: u32) -> u32 {
+pub(crate) fn other(i: u32) -> u32 {
     (i % 8 + i / 8 % 7 + 1) % 8 + 1
 }
 
-pub fn right(i: u32) -> Right {
+pub(crate) fn right(i: u32) -> Right {
     if i % 2 == 0 {
         return Right::Read;
     }
@@ -84,16 +84,16 @@ pub fn right(i: u32) -> Right {
 }
 
 // A token of the caller's list, of which every sequence is still 0.
-pub fn token(i: u32) -> u32 {
+pub(crate) fn token(i: u32) -> u32 {
     i / 8 % 30 + 2
 }
 
-pub fn register(i: u32) -> u32 {
+pub(crate) fn register(i: u32) -> u32 {
     i % 16
 }
 
 // With 256 bytes it stays below the 1,280 that were stored.
-pub fn address(i: u32) -> u32 {
+pub(crate) fn address(i: u32) -> u32 {
     i % 1024
 }
 
@@ -105,17 +105,17 @@ fn wide(x: u32) -> u64 {
     x as u64
 }
 
-pub fn plus(a: u64, b: u64) -> u64 {
+pub(crate) fn plus(a: u64, b: u64) -> u64 {
     std::num::wrapping_add_u64(a, b)
 }
 
 // What a round adds to the checksum: the number and the value of its answer.
-pub fn told(a: Answer) -> u64 {
+pub(crate) fn told(a: Answer) -> u64 {
     plus(wide(spaces::number(a)), wide(spaces::value(a)))
 }
 
 // The same of a reply, with an entry of its tables. Which entry varies by round, so that the tables have to be made.
-pub fn tasted(r: Reply, i: u32) -> u64 {
+pub(crate) fn tasted(r: Reply, i: u32) -> u64 {
     let a = r.answer;
     let t = r.state;
     let e = t.entries[(i % 240) as usize];
@@ -123,7 +123,7 @@ pub fn tasted(r: Reply, i: u32) -> u64 {
 }
 
 // The same of a fetch, with the last byte that it brought.
-pub fn brought(a: Answer, buffer: &[u8]) -> u64 {
+pub(crate) fn brought(a: Answer, buffer: &[u8]) -> u64 {
     if buffer.len() == 0 {
         return told(a);
     }

@@ -134,7 +134,7 @@ fn run_bytes(input: &[u8], room: &mut [u8], text: &mut [u8]) -> usize
 }
 
 // The input in one piece, with much room; the length of the text.
-pub fn run_whole(input: &[u8], text: &mut [u8]) -> usize
+pub(crate) fn run_whole(input: &[u8], text: &mut [u8]) -> usize
     requires { ⌜ 18 ≤ length (now text) ⌝ }
     ensures { λ r. ⌜ r ≤ length (now (text .entry)) ⌝ }
 {
@@ -143,7 +143,7 @@ pub fn run_whole(input: &[u8], text: &mut [u8]) -> usize
 }
 
 // How far apart the places are at which an input is cut.
-pub fn cut_step(size: usize) -> usize
+pub(crate) fn cut_step(size: usize) -> usize
     ensures { λ r. ⌜ (0 < r) × (r ≤ 101) ⌝ }
 {
     if size <= 3000 {
@@ -152,7 +152,7 @@ pub fn cut_step(size: usize) -> usize
     101
 }
 
-pub fn cut_count(size: usize) -> usize {
+pub(crate) fn cut_count(size: usize) -> usize {
     if size <= 3000 {
         return size + 1;
     }
@@ -180,7 +180,7 @@ fn bad_cut_from(input: &[u8], step: usize, want: &[u8], room: &mut [u8], text: &
     cut
 }
 
-pub fn first_bad_cut(input: &[u8], step: usize, want: &[u8]) -> usize
+pub(crate) fn first_bad_cut(input: &[u8], step: usize, want: &[u8]) -> usize
     requires { ⌜ (0 < step) × (step ≤ 101) ⌝ }
 {
     let mut room = io::large_buffer();
@@ -188,7 +188,7 @@ pub fn first_bad_cut(input: &[u8], step: usize, want: &[u8]) -> usize
     bad_cut_from(input, step, want, &mut room, &mut text)
 }
 
-pub fn is_same_by_bytes(input: &[u8], want: &[u8]) -> bool {
+pub(crate) fn is_same_by_bytes(input: &[u8], want: &[u8]) -> bool {
     let mut room = [0u8; 600];
     let mut text = io::large_buffer();
     let n = run_bytes(input, &mut room, &mut text);
@@ -216,7 +216,7 @@ fn bad_room_from(input: &[u8], want: &[u8], text: &mut [u8]) -> usize
     size
 }
 
-pub fn first_bad_room(input: &[u8], want: &[u8]) -> usize {
+pub(crate) fn first_bad_room(input: &[u8], want: &[u8]) -> usize {
     let mut text = io::large_buffer();
     bad_room_from(input, want, &mut text)
 }
