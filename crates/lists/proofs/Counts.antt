@@ -33,6 +33,15 @@ unfolding count
 count-none p zero h = refl
 count-none p (suc n) h = no! _ _ (h n (omega arith)) ∙ count-none p n (λ k a. h k (omega arith))
 
+pub count-most : (p : ℕ → Bool) (n : ℕ) → count p n ≤ n
+unfolding count choose
+count-most p zero = omega arith
+count-most p (suc n) = go (p n) (count-most p n)
+  where
+    go : (b : Bool) → count p n ≤ n → choose b (count p n + 1) (count p n) ≤ suc n
+    go true h = omega arith
+    go false h = omega arith
+
 -- where one test passes the other does
 pub count-le : (p q : ℕ → Bool) (n : ℕ) → ((k : ℕ) → k < n → p k ≡ true → q k ≡ true) → count p n ≤ count q n
 unfolding count choose

@@ -121,3 +121,18 @@ module _ (p : ℕ → Bool) where
       go : Dec (lowest p n ≤ k) → lowest p n ≤ k
       go (yes l) = l
       go (no l) = true-false y (lowest-least n k (omega arith))
+
+  -- no place passes; or one does, and none below it
+  pub lowest-none : (n : ℕ) → ((i : ℕ) → i < n → p i ≡ false) → lowest p n ≡ n
+  lowest-none n h = go (decLe n (lowest p n))
+    where
+      go : Dec (n ≤ lowest p n) → lowest p n ≡ n
+      go (yes l) = omega (arith, lowest-le n)
+      go (no l) = true-false (lowest-holds n (omega arith)) (h (lowest p n) (omega arith))
+
+  pub lowest-is : (n k : ℕ) → k < n → p k ≡ true → ((i : ℕ) → i < k → p i ≡ false) → lowest p n ≡ k
+  lowest-is n k b y h = go (decLe k (lowest p n))
+    where
+      go : Dec (k ≤ lowest p n) → lowest p n ≡ k
+      go (yes l) = omega (arith, lowest-bound n k y)
+      go (no l) = true-false (lowest-holds n (omega arith)) (h (lowest p n) (omega arith))

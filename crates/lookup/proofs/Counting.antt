@@ -1,25 +1,16 @@
 -- For search: a loop that counts the places below 32 at which a test holds. Assumes nothing.
-use Prim.Native.Nat.{ℕ, zero, suc, _+_, _≤_, _<_}
+use Prim.Native.Nat.{ℕ, _+_, _≤_, _<_}
 use mathlib.Core.Bool.{Bool, true, false}
 use mathlib.Core.Path.{_≡_, refl, sym, ap, _∙_}
 use native.Mathlib.Omega.{arith}
 use Rattle.lists.specs.Choice.{choose}
 use Rattle.lists.specs.Places.{count}
 use Rattle.lists.proofs.Choice.{yes!, no! }
-use Rattle.lists.proofs.Counts.{count-zero, count-yes, count-no}
+use Rattle.lists.proofs.Counts.{count-zero, count-yes, count-no, count-most}
 
 module _ (p : ℕ → Bool) where
-  count-below : (u : ℕ) → count p u ≤ u
-  unfolding count choose
-  count-below zero = omega arith
-  count-below (suc u) = go (p u) (count-below u)
-    where
-      go : (b : Bool) → count p u ≤ u → choose b (count p u + 1) (count p u) ≤ suc u
-      go true h = omega arith
-      go false h = omega arith
-
   pub count-room : (n u : ℕ) → n ≡ count p u → u < 32 → n < 32
-  count-room n u e h = omega (arith, count-below u)
+  count-room n u e h = omega (arith, count-most p u)
 
   pub count-start : 0 ≡ count p 0
   count-start = sym (count-zero p)

@@ -1,4 +1,3 @@
 pub mod Lists
-pub mod Runs
 pub mod Counting
 pub mod Rules

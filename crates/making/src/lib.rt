@@ -45,7 +45,7 @@ fn make(
             state: s,
         };
     }
-    let first = lookup::free_run(ss, s.frames, pages);
+    let first = runs::free_run(ss, s.frames, pages);
     if s.frames <= first {
         return Reply {
             answer: Answer::NoRun,

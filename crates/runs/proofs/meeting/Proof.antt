@@ -1,4 +1,4 @@
--- `lookup::meeting` meets its contract. Assumes nothing.
+-- `runs::meeting` meets its contract. Assumes nothing.
 use Prim.Native.Nat.{_≤_, _-_}
 use mathlib.Core.Path.{_≡_, refl}
 use native.Mathlib.Omega.{arith}
@@ -6,9 +6,9 @@ use borrow.Author.Needs.{needs}
 use Rattle.lists.specs.Places.{lowest, lowestFrom}
 use Rattle.lists.proofs.Rules.{loops}
 use Rattle.model.specs.Tables.{spaceAt}
-use Rattle.lookup.specs.Meeting.{meets, meetingSlot}
-use Rattle.lookup.proofs.meeting.Statement.{statement}
-use Rattle.lookup.proofs.meeting.Tie as tie
+use Rattle.runs.specs.Meeting.{meets, meetingSlot}
+use Rattle.runs.proofs.meeting.Statement.{statement}
+use Rattle.runs.proofs.meeting.Tie as tie
 
 abbrev Inv-loop : tie.InvT-loop
 Inv-loop first pages spaces u₀ u = (u ≤ 32) × (meetingSlot spaces first pages ≡ lowestFrom (λ v. meets first pages (spaceAt spaces v)) u (32 - u))

@@ -1,9 +1,9 @@
--- `lookup::meets` meets its contract. Assumes nothing.
+-- `runs::meets` meets its contract. Assumes nothing.
 use borrow.Author.Needs.{needs}
 use Rattle.lists.proofs.Rules.{tests}
-use Rattle.lookup.specs.Meeting.{meets}
-use Rattle.lookup.proofs.meets.Statement.{statement}
-use Rattle.lookup.proofs.meets.Tie as tie
+use Rattle.runs.specs.Meeting.{meets}
+use Rattle.runs.proofs.meets.Statement.{statement}
+use Rattle.runs.proofs.meets.Tie as tie
 
 returns : tie.Need-returns
 unfolding meets

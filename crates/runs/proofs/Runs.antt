@@ -7,29 +7,13 @@ use mathlib.Core.Path.{_≡_, sym}
 use native.Mathlib.Decide.{decLe}
 use native.Mathlib.Omega.{arith}
 use borrow.Author.Tests.{leb-true, ltb-true, eq-eqb, ne-eqb, le-leb, lt-leb, lt-ltb}
-use Rattle.lists.specs.Places.{lowest}
 use Rattle.lists.proofs.Choice.{true-false, not-so, not-to, not-of, both-left, both-right, both-intro, both-no, implies-to, implies-of}
-use Rattle.lists.proofs.Places.{every-at, every-intro, lowest-le, lowest-holds, lowest-bound}
+use Rattle.lists.proofs.Places.{every-at, every-intro, lowest-holds, lowest-bound, lowest-none, lowest-is}
 use Rattle.model.specs.declared.Space.{Space}
 use Rattle.model.specs.Frames.{frameOf, frameFree}
 use Rattle.model.specs.Searches.{runFree, runIn}
 use Rattle.model.specs.Tables.{spaceAt, live}
-use Rattle.lookup.specs.Meeting.{meets, meetingSlot}
-
--- the lowest place at which a test holds
-lowest-none : (p : ℕ → Bool) (n : ℕ) → ((i : ℕ) → i < n → p i ≡ false) → lowest p n ≡ n
-lowest-none p n h = go (decLe n (lowest p n))
-  where
-    go : Dec (n ≤ lowest p n) → lowest p n ≡ n
-    go (yes l) = omega (arith, lowest-le p n)
-    go (no l) = true-false (lowest-holds p n (omega arith)) (h (lowest p n) (omega arith))
-
-lowest-is : (p : ℕ → Bool) (n k : ℕ) → k < n → p k ≡ true → ((i : ℕ) → i < k → p i ≡ false) → lowest p n ≡ k
-lowest-is p n k b y h = go (decLe k (lowest p n))
-  where
-    go : Dec (k ≤ lowest p n) → lowest p n ≡ k
-    go (yes l) = omega (arith, lowest-bound p n k y)
-    go (no l) = true-false (lowest-holds p n (omega arith)) (h (lowest p n) (omega arith))
+use Rattle.runs.specs.Meeting.{meets, meetingSlot}
 
 -- the space is live and has one of n frames from f on
 record Meets (f n : ℕ) (x : Space) : Type 0 where

@@ -1,9 +1,9 @@
--- `lookup::free_run` meets its contract. Assumes nothing.
+-- `runs::free_run` meets its contract. Assumes nothing.
 use Prim.Native.Nat.{_+_, _-_}
 use borrow.Author.Needs.{needs}
-use Rattle.lookup.proofs.Runs.{Tried, runs}
-use Rattle.lookup.proofs.free_run.Statement.{statement}
-use Rattle.lookup.proofs.free_run.Tie as tie
+use Rattle.runs.proofs.Runs.{Tried, runs}
+use Rattle.runs.proofs.free_run.Statement.{statement}
+use Rattle.runs.proofs.free_run.Tie as tie
 
 abbrev Inv-loop : tie.InvT-loop
 Inv-loop frames pages spaces last first₀ first = Tried frames spaces pages first
