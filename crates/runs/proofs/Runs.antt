@@ -1,19 +1,19 @@
 -- The search for the lowest run of free frames, which goes from start to start: where a live space meets the run that is
 -- tried, it meets every run that starts before its end too. Assumes nothing.
-use Prim.Native.Nat.{ℕ, _+_, _-_, _≤_, _<_}
+use Prim.Native.Nat.{ℕ, _+_, _-_, _*_, _≤_, _<_}
 use mathlib.Core.Bool.{Bool, true, false}
 use mathlib.Core.List.{List}
-use mathlib.Core.Path.{_≡_, sym}
+use mathlib.Core.Path.{_≡_, sym, _∙_}
 use native.Mathlib.Decide.{decLe}
 use native.Mathlib.Omega.{arith}
 use borrow.Author.Tests.{leb-true, ltb-true, eq-eqb, ne-eqb, le-leb, lt-leb, lt-ltb}
 use Rattle.lists.proofs.Choice.{true-false, not-so, not-to, not-of, both-left, both-right, both-intro, both-no, implies-to, implies-of}
-use Rattle.lists.proofs.Places.{every-at, every-intro, lowest-holds, lowest-bound, lowest-none, lowest-is}
+use Rattle.lists.proofs.Places.{every-at, every-intro, lowest-none, lowest-is}
 use Rattle.model.specs.declared.Space.{Space}
 use Rattle.model.specs.Frames.{frameOf, frameFree}
 use Rattle.model.specs.Searches.{runFree, runIn}
 use Rattle.model.specs.Tables.{spaceAt, live}
-use Rattle.runs.specs.Meeting.{meets, meetingSlot}
+use Rattle.runs.specs.Meeting.{meets}
 
 -- the space is live and has one of n frames from f on
 record Meets (f n : ℕ) (x : Space) : Type 0 where
@@ -71,12 +71,13 @@ module _ (F : ℕ) (ss : List Space) (n : ℕ) where
       go (yes l) = occupied g u 0 (spaceAt ss u .first - g) hu (m .live) (m .pages) (omega arith) (omega arith)
       go (no l) = occupied g u (g - spaceAt ss u .first) 0 hu (m .live) (omega arith) (omega arith) (omega arith)
 
-  -- so far no run was found: none starts below f
-  pub record Tried (f : ℕ) : Type 0 where
+  -- so far no run was found: none starts below f, and the spaces in the slots below u have no frame of the one that starts there
+  pub record Tried (f u : ℕ) : Type 0 where
     none : (g : ℕ) → g < f → run g ≡ false
+    clear : (v : ℕ) → v < u → meets f n (spaceAt ss v) ≡ false
 
-  pub try-start : Tried 0
-  try-start = record { none = λ g l. absurd (omega arith) }
+  pub try-start : Tried 0 0
+  try-start = record { none = λ g l. absurd (omega arith); clear = λ v l. absurd (omega arith) }
 
   -- a run ends inside F
   past : (g : ℕ) → F < g + n → run g ≡ false
@@ -87,33 +88,46 @@ module _ (F : ℕ) (ss : List Space) (n : ℕ) where
   unfolding runIn
   try-small h = sym (lowest-none run F (λ g _. past g (omega arith)))
 
-  pub try-found : (f u : ℕ) → Tried f → u ≡ meetingSlot ss f n → 32 ≤ u → 1 ≤ n → n ≤ F → f ≤ F - n → f ≡ runIn F ss ss n
-  unfolding runIn meetingSlot
-  try-found f u t e h one big l =
-      sym (lowest-is run F f (omega arith) (unmet f (omega arith) (λ v b m.
-      omega (arith, lowest-bound (λ w. meets f n (spaceAt ss w)) 32 v (meets-of f n (spaceAt ss v) m)))) (t .none))
-
-  met-slot : (f u : ℕ) → u ≡ meetingSlot ss f n → u < 32 → Meets f n (spaceAt ss u)
-  unfolding meetingSlot
-  met-slot f u e h = meets-to f n (spaceAt ss u) (rw e (lowest-holds (λ w. meets f n (spaceAt ss w)) 32 (omega arith)))
-
-  pub try-go : (f u : ℕ) → Tried f → u ≡ meetingSlot ss f n → u < 32 → 1 ≤ n → Tried (spaceAt ss u .first + spaceAt ss u .pages)
-  try-go f u t e h one = record { none = λ g l. go g l (decLe f g) }
+  -- the next slot
+  pub try-next : (f u : ℕ) (b : Bool) → Tried f u → b ≡ meets f n (spaceAt ss u) → b ≡ false → Tried f (u + 1)
+  try-next f u b t e y = record { none = t .none; clear = λ v l. go v (decLe (v + 1) u) l }
     where
-      go : (g : ℕ) → g < spaceAt ss u .first + spaceAt ss u .pages → Dec (f ≤ g) → run g ≡ false
-      go g l (yes a) = met f u one h (met-slot f u e h) g a l
-      go g l (no a) = t .none g (omega arith)
+      go : (v : ℕ) → Dec (v + 1 ≤ u) → v < u + 1 → meets f n (spaceAt ss v) ≡ false
+      go v (yes l) h = t .clear v (omega arith)
+      go v (no l) h = let q : v ≡ u = omega arith in rw q (sym e ∙ y)
 
-  pub try-done : (f : ℕ) → Tried f → n ≤ F → F - n < f → F ≡ runIn F ss ss n
+  -- the space in slot u has a frame of it: no run starts before the space's end
+  module _ (f u : ℕ) (b : Bool) (one : 1 ≤ n) (hu : u < 32) (t : Tried f u) (e : b ≡ meets f n (spaceAt ss u)) (y : b ≡ true) where
+    ended : (g : ℕ) → g < spaceAt ss u .first + spaceAt ss u .pages → run g ≡ false
+    ended g l = go (decLe f g)
+      where
+        go : Dec (f ≤ g) → run g ≡ false
+        go (yes a) = met f u one hu (meets-to f n (spaceAt ss u) (sym e ∙ y)) g a l
+        go (no a) = t .none g (omega arith)
+
+    pub try-again : Tried (spaceAt ss u .first + spaceAt ss u .pages) 0
+    try-again = record { none = ended; clear = λ v l. absurd (omega arith) }
+
+    pub try-none : n ≤ F → F - n < spaceAt ss u .first + spaceAt ss u .pages → F ≡ runIn F ss ss n
+    unfolding runIn
+    try-none big l = sym (lowest-none run F (λ g _. go g (decLe (spaceAt ss u .first + spaceAt ss u .pages) g)))
+      where
+        go : (g : ℕ) → Dec (spaceAt ss u .first + spaceAt ss u .pages ≤ g) → run g ≡ false
+        go g (yes a) = past g (omega arith)
+        go g (no a) = ended g (omega arith)
+
+  pub try-found : (f u : ℕ) → Tried f u → 32 ≤ u → 1 ≤ n → n ≤ F → f ≤ F - n → f ≡ runIn F ss ss n
   unfolding runIn
-  try-done f t big l = sym (lowest-none run F (λ g _. go g (decLe f g)))
-    where
-      go : (g : ℕ) → Dec (f ≤ g) → run g ≡ false
-      go g (yes a) = past g (omega arith)
-      go g (no a) = t .none g (omega arith)
+  try-found f u t h one big l =
+      sym (lowest-is run F f (omega arith) (unmet f (omega arith) (λ v b m.
+      true-false (meets-of f n (spaceAt ss v) m) (t .clear v (omega arith)))) (t .none))
 
--- each round starts later
-pub try-later : (ss : List Space) (n f u last : ℕ) → u ≡ meetingSlot ss f n → u < 32 → f ≤ last → last + 1 - (spaceAt ss u .first + spaceAt ss u .pages) < last + 1 - f
-try-later ss n f u last e h l = omega (arith, met-slot 0 ss n f u e h .ends)
+-- each start is later than the one before, and has every slot before it
+abbrev pub left : (last first u : ℕ) → ℕ
+left last f u = (last + 1 - f) * 33 + (32 - u)
 
-pub ruleset runs = (try-start, try-small, try-found, try-go, try-done, try-later, arith)
+pub try-later : (n f last u : ℕ) (x : Space) (b : Bool) → b ≡ meets f n x → b ≡ true → f ≤ last → x .first + x .pages ≤ last
+    → left last (x .first + x .pages) 0 < left last f u
+try-later n f last u x b e y l h = omega (arith, meets-to f n x (sym e ∙ y) .ends)
+
+pub ruleset runs = (try-start, try-small, try-next, try-again, try-none, try-found, try-later, arith)

@@ -1,15 +1,15 @@
 -- `runs::free_run` meets its contract. Assumes nothing.
-use Prim.Native.Nat.{_+_, _-_}
+use Prim.Native.Nat.{_≤_}
 use borrow.Author.Needs.{needs}
-use Rattle.runs.proofs.Runs.{Tried, runs}
+use Rattle.runs.proofs.Runs.{Tried, left, runs}
 use Rattle.runs.proofs.free_run.Statement.{statement}
 use Rattle.runs.proofs.free_run.Tie as tie
 
 abbrev Inv-loop : tie.InvT-loop
-Inv-loop frames pages spaces last first₀ first = Tried frames spaces pages first
+Inv-loop frames pages spaces last first₀ u₀ first u = Tried frames spaces pages first u × (first ≤ last) × (u ≤ 32)
 
 abbrev μ-loop : tie.MeasureT-loop
-μ-loop frames pages spaces last first₀ first = last + 1 - first
+μ-loop frames pages spaces last first₀ u₀ first u = left last first u
 
 returns : tie.Need-returns Inv-loop μ-loop
 returns c = search runs
@@ -17,17 +17,14 @@ returns c = search runs
 loop-holds : tie.Need-loop-holds Inv-loop μ-loop
 loop-holds c = search runs
 
-meeting-requires : tie.Need-meeting-requires Inv-loop μ-loop
-meeting-requires c κs = search needs
-
-returns-2 : tie.Need-returns-2 Inv-loop μ-loop
-returns-2 c = search runs
-
 mul-x : tie.Need-mul-x Inv-loop μ-loop
 mul-x c = search needs
 
 array-copy-out-x : tie.Need-array-copy-out-x Inv-loop μ-loop
 array-copy-out-x c = search needs
+
+meets-requires : tie.Need-meets-requires Inv-loop μ-loop
+meets-requires c κs = search needs
 
 cast-first : tie.Need-cast-first Inv-loop μ-loop
 cast-first c = search needs
@@ -38,11 +35,23 @@ cast-first-2 c = search needs
 add-first : tie.Need-add-first Inv-loop μ-loop
 add-first c = search needs
 
+returns-2 : tie.Need-returns-2 Inv-loop μ-loop
+returns-2 c = search runs
+
 loop-less : tie.Need-loop-less Inv-loop μ-loop
 loop-less c = search runs
 
 loop-again : tie.Need-loop-again Inv-loop μ-loop
 loop-again c = search runs
+
+add-u : tie.Need-add-u Inv-loop μ-loop
+add-u c = search needs
+
+loop-less-2 : tie.Need-loop-less-2 Inv-loop μ-loop
+loop-less-2 c = search needs
+
+loop-again-2 : tie.Need-loop-again-2 Inv-loop μ-loop
+loop-again-2 c = search runs
 
 returns-3 : tie.Need-returns-3 Inv-loop μ-loop
 returns-3 c = search runs
@@ -55,13 +64,16 @@ free-run-spec =
     μ-loop
     returns
     loop-holds
-    meeting-requires
-    returns-2
     mul-x
     array-copy-out-x
+    meets-requires
     cast-first
     cast-first-2
     add-first
+    returns-2
     loop-less
     loop-again
+    add-u
+    loop-less-2
+    loop-again-2
     returns-3)
