@@ -122,12 +122,12 @@ module _ (F : ℕ) (ss : List Space) (n : ℕ) where
       sym (lowest-is run F f (omega arith) (unmet f (omega arith) (λ v b m.
       true-false (meets-of f n (spaceAt ss v) m) (t .clear v (omega arith)))) (t .none))
 
--- each start is later than the one before, and has every slot before it
+-- each start is later than the one before, which outweighs the slots asked
 abbrev pub left : (last first u : ℕ) → ℕ
 left last f u = (last + 1 - f) * 33 + (32 - u)
 
-pub try-later : (n f last u : ℕ) (x : Space) (b : Bool) → b ≡ meets f n x → b ≡ true → f ≤ last → x .first + x .pages ≤ last
-    → left last (x .first + x .pages) 0 < left last f u
-try-later n f last u x b e y l h = omega (arith, meets-to f n x (sym e ∙ y) .ends)
+pub try-later : (n f last u v : ℕ) (x : Space) (b : Bool) → b ≡ meets f n x → b ≡ true → f ≤ last → x .first + x .pages ≤ last
+    → left last (x .first + x .pages) v < left last f u
+try-later n f last u v x b e y l h = omega (arith, meets-to f n x (sym e ∙ y) .ends)
 
 pub ruleset runs = (try-start, try-small, try-next, try-again, try-none, try-found, try-later, arith)
