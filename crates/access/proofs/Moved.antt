@@ -29,8 +29,8 @@ use Rattle.model.specs.Replies.{callOf}
 use Rattle.model.specs.Step.{scratchAfter, bufferAfter}
 use Rattle.model.specs.Tables.{spaceAt}
 use Rattle.model.proofs.Rules.{check-yes, check-no}
-use Rattle.access.specs.Transferred.{RunIn, inside, placeIn, fetchAnswer, fetched, storeAnswer, stored}
-use Rattle.access.proofs.Lending.{ends}
+use Rattle.transfer.specs.Transferred.{RunIn, inside, placeIn, fetchAnswer, fetched, storeAnswer, stored}
+use Rattle.transfer.proofs.Lending.{ends}
 use Rattle.access.proofs.Reach.{Aimed}
 
 abbrev space : State → (slot : ℕ) → Space

@@ -26,9 +26,9 @@ use Rattle.model.proofs.Reached.{reached-live}
 use Rattle.model.proofs.Rules.{place-yes, place-is}
 use Rattle.model.proofs.Searches.{live-slot}
 use Rattle.model.proofs.SoundTest.{sound-decides}
-use Rattle.access.specs.Transferred.{RunIn}
-use Rattle.access.specs.Translated.{tokenPlace, translatedBy}
-use Rattle.access.proofs.Translated.{translated-is}
+use Rattle.transfer.specs.Transferred.{RunIn}
+use Rattle.translation.specs.Translated.{tokenPlace, translatedBy}
+use Rattle.translation.proofs.Translated.{translated-is}
 
 -- guest g has passed check 2 and the register check 3, and the translation for it through register r is x
 pub record Aimed (s : State) (g r : ℕ) (x : Translation) : Type 0 where

@@ -1,102 +1,19 @@
-// LOAD, MODE, FETCH and STORE, for callers that hold a sound state.
+// FETCH and STORE, for callers that hold a sound state: from a register, through its token, to the bytes of a space.
 ghost use Prim.Native.Nat.{_*_};
 ghost use mathlib.Core.Bool.{true};
 ghost use mathlib.Core.Path.{_≡_};
-ghost use lib.Dec.{eqb};
 ghost use lib.ListN.{length};
-ghost use Rattle.lists.specs.Choice.{implies};
 ghost use Rattle.model.specs.Arguments.{goodLength};
 ghost use Rattle.model.specs.Calls.{judge};
 ghost use Rattle.model.specs.Leaves.{scratchJudged, bufferJudged};
-ghost use Rattle.model.specs.Replies.{replied, callOf};
+ghost use Rattle.model.specs.Replies.{callOf};
 ghost use Rattle.model.specs.SoundTest.{sound};
-ghost use Rattle.model.specs.declared.Operation.the-variants.{Load, Mode, Fetch, Store};
+ghost use Rattle.model.specs.declared.Operation.the-variants.{Fetch, Store};
 use model::Answer;
 use model::Caller;
 use model::Kind;
-use model::Reply;
 use model::State;
 use model::Translation;
-
-pub mod tokens;
-mod transfer;
-
-pub fn load(mut s: State, caller: Caller, register: u32, value: u32) -> Reply
-    requires { ⌜ sound s ≡ true ⌝ }
-    ensures { λ r. ⌜ r ≡ replied (judge s (callOf caller (Load register value)) 0) ⌝ }
-{
-    let gs = s.guests;
-    let at = lookup::caller_place(gs, caller.guest);
-    if 8 <= at {
-        return Reply {
-            answer: Answer::BadCaller,
-            state: s,
-        };
-    }
-    if 15 < register {
-        return Reply {
-            answer: Answer::Limit {
-                kind: Kind::Register,
-                place: 2,
-            },
-            state: s,
-        };
-    }
-    let mut c = s.cpus[at];
-    c.registers[register as usize] = value;
-    s.cpus[at] = c;
-    Reply {
-        answer: Answer::Done { value: 0 },
-        state: s,
-    }
-}
-
-// Only access-register mode asks for the ASF control.
-fn may_set(mode: u32, asf: bool) -> bool
-    ensures { λ r. ⌜ r ≡ implies (eqb mode 1) asf ⌝ }
-{
-    if mode == 1 {
-        return asf;
-    }
-    true
-}
-
-pub fn mode(mut s: State, caller: Caller, mode: u32) -> Reply
-    requires { ⌜ sound s ≡ true ⌝ }
-    ensures { λ r. ⌜ r ≡ replied (judge s (callOf caller (Mode mode)) 0) ⌝ }
-{
-    let gs = s.guests;
-    let at = lookup::caller_place(gs, caller.guest);
-    if 8 <= at {
-        return Reply {
-            answer: Answer::BadCaller,
-            state: s,
-        };
-    }
-    if 1 < mode {
-        return Reply {
-            answer: Answer::Limit {
-                kind: Kind::Flag,
-                place: 2,
-            },
-            state: s,
-        };
-    }
-    let x = s.guests[at];
-    if !may_set(mode, x.asf) {
-        return Reply {
-            answer: Answer::SpecialOperation,
-            state: s,
-        };
-    }
-    let mut c = s.cpus[at];
-    c.mode = mode == 1;
-    s.cpus[at] = c;
-    Reply {
-        answer: Answer::Done { value: 0 },
-        state: s,
-    }
-}
 
 // A fetch or store moves 1 to 256 bytes.
 fn good_length(n: usize) -> bool
@@ -138,12 +55,12 @@ pub fn fetch(
         };
     }
     let c = s.cpus[at];
-    let token = tokens::token_used(c, register);
-    let e = s.entries[tokens::entry_place(at, token)];
+    let token = translation::token_used(c, register);
+    let e = s.entries[translation::entry_place(at, token)];
     let g = s.guests[at];
     let ss = s.spaces;
-    match tokens::translate(ss, g.list, e, caller.guest, token) {
-        Translation::Refused(refusal) => refusal,
+    match translation::translate(ss, g.list, e, caller.guest, token) {
+        Translation::Refused(refusal) => return refusal,
         Translation::Reached { slot, right: _ } => {
             let x = s.spaces[slot as usize];
             transfer::fetch_from(x, scratch, address, buffer)
@@ -181,12 +98,12 @@ pub fn store(
         };
     }
     let c = s.cpus[at];
-    let token = tokens::token_used(c, register);
-    let e = s.entries[tokens::entry_place(at, token)];
+    let token = translation::token_used(c, register);
+    let e = s.entries[translation::entry_place(at, token)];
     let g = s.guests[at];
     let ss = s.spaces;
-    match tokens::translate(ss, g.list, e, caller.guest, token) {
-        Translation::Refused(refusal) => refusal,
+    match translation::translate(ss, g.list, e, caller.guest, token) {
+        Translation::Refused(refusal) => return refusal,
         Translation::Reached { slot, right } => {
             let x = s.spaces[slot as usize];
             transfer::store_to(x, right, scratch, address, bytes)

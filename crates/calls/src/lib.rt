@@ -34,8 +34,8 @@ pub fn serve(s: State, scratch: &mut [u8], call: Call, buffer: &mut [u8]) -> Rep
         },
         Operation::Add { id, right } => rights::add(s, caller, id, right),
         Operation::Remove { token } => rights::remove(s, caller, token),
-        Operation::Load { register, value } => access::load(s, caller, register, value),
-        Operation::Mode { mode } => access::mode(s, caller, mode),
+        Operation::Load { register, value } => cpus::load(s, caller, register, value),
+        Operation::Mode { mode } => cpus::mode(s, caller, mode),
         Operation::Fetch { register, address } => Reply {
             answer: access::fetch(s, scratch, caller, register, address, buffer),
             state: s,

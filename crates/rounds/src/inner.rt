@@ -37,11 +37,11 @@ fn reading_round(s: State, scratch: &[u8], buffer: &mut [u8], call: u32, i: u32)
         return turn::tasted(r, i);
     }
     if call == turn::LOAD {
-        let r = access::load(s, who, turn::register(i), i);
+        let r = cpus::load(s, who, turn::register(i), i);
         return turn::tasted(r, i);
     }
     if call == turn::MODE {
-        let r = access::mode(s, who, i / 8 % 2);
+        let r = cpus::mode(s, who, i / 8 % 2);
         return turn::tasted(r, i);
     }
     if call == turn::FETCH {

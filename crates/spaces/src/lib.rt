@@ -143,7 +143,7 @@ pub fn load(s: State, scratch: &[u8], caller: Caller, register: u32, value: u32)
     if !is_ready(s, scratch.len()) {
         return unsound(s);
     }
-    access::load(s, caller, register, value)
+    cpus::load(s, caller, register, value)
 }
 
 pub fn mode(s: State, scratch: &[u8], caller: Caller, mode: u32) -> Reply
@@ -152,7 +152,7 @@ pub fn mode(s: State, scratch: &[u8], caller: Caller, mode: u32) -> Reply
     if !is_ready(s, scratch.len()) {
         return unsound(s);
     }
-    access::mode(s, caller, mode)
+    cpus::mode(s, caller, mode)
 }
 
 // FETCH and STORE leave the tables: the state is not returned.

@@ -58,6 +58,9 @@ translate-requires c κs = search needs
 enum-known-refusal : tie.Need-enum-known-refusal
 enum-known-refusal c = search needs
 
+returns-4 : tie.Need-returns-4
+returns-4 c = store-refused _ _ _ _ _ (search (store-stops, aimed, test-yes))
+
 enum-known-slot : tie.Need-enum-known-slot
 enum-known-slot c = search needs
 
@@ -72,9 +75,6 @@ element-copy-out-x c = search reached-slot
 
 store-to-requires : tie.Need-store-to-requires
 store-to-requires c κs = (search length-small, search reached-run)
-
-returns-4 : tie.Need-returns-4
-returns-4 c = store-refused _ _ _ _ _ (search (store-stops, aimed, test-yes))
 
 same-length : tie.Need-same-length
 same-length c = search needs
@@ -101,11 +101,11 @@ store-spec =
     element-copy-out-g
     translate-requires
     enum-known-refusal
+    returns-4
     enum-known-slot
     cast-x
     mul-x
     element-copy-out-x
     store-to-requires
-    returns-4
     same-length
     returns-5)

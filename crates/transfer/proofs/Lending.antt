@@ -1,0 +1,44 @@
+-- The bytes of a fetch or store that is inside its space lie in scratch. Assumes nothing.
+use Prim.Native.Nat.{ℕ, _+_, _-_, _*_, _≤_}
+use mathlib.Core.Bool.{Bool, true, false, not}
+use mathlib.Core.List.{List, _++_}
+use mathlib.Core.Path.{_≡_, sym, ap, _∙_}
+use native.Mathlib.Omega.{arith}
+use lib.ListN.{length, take, drop, length-take, length-drop}
+use borrow.Author.Tests.{leb-true}
+use Rattle.lists.specs.Bytes.{over, part}
+use Rattle.lists.proofs.Bytes.{part-lent, over-lent}
+use Rattle.lists.proofs.Choice.{yes! }
+use Rattle.lists.proofs.Rules.{test-yes}
+use Rattle.model.specs.declared.Right.{Right}
+use Rattle.model.specs.declared.Space.{Space}
+use Rattle.model.specs.Calls.{writes}
+use Rattle.transfer.specs.Transferred.{RunIn, inside, placeIn, fetched, stored}
+
+pub ends : (x : Space) (a n : ℕ) (m : List ℕ) → RunIn x m → inside x a n ≡ true → placeIn x a + n ≤ length m
+ends x a n m run t = omega (arith, leb-true (a + n) (x .pages * 4096) t)
+
+-- what is asked where the part from the place p on is lent
+module _ (x : Space) (a n p : ℕ) (m : List ℕ) (ok : Bool) (run : RunIn x m) (e : p ≡ placeIn x a) (t : ok ≡ inside x a n) (y : not ok ≡ false) where
+  fits : placeIn x a + n ≤ length m
+  fits = ends x a n m run (test-yes ok (inside x a n) t y)
+
+  pub starts-inside : p ≤ length m
+  starts-inside = omega (arith, fits)
+
+  pub lent-long : n ≤ length (take (length m - p) (drop p m))
+  lent-long = simp (length-take, length-drop) (omega (arith, fits))
+
+pub ruleset lending = (starts-inside, lent-long)
+
+-- the bytes that are moved where every check passed
+pub fetched-inside : (x : Space) (a p : ℕ) (m b y : List ℕ) → p ≡ placeIn x a → y ≡ part (take (length m - p) (drop p m)) 0 (length b) → inside x a (length b) ≡ true → y ≡ fetched x a m b
+unfolding fetched
+fetched-inside x a p m b y e q t =
+    part-lent m y p (length b) q ∙ ap (λ k. part m k (length b)) e ∙ sym (yes! _ _ t)
+
+pub stored-inside : (x : Space) (r : Right) (a p : ℕ) (m b y : List ℕ) → p ≡ placeIn x a → y ≡ over (take (length m - p) (drop p m)) 0 b → inside x a (length b) ≡ true → writes r ≡ true
+    → take p m ++ (y ++ drop (length m - p) (drop p m)) ≡ stored x r a m b
+unfolding stored
+stored-inside x r a p m b y e q t w =
+    over-lent m b y p q ∙ ap (λ k. over m k b) e ∙ sym (yes! _ _ t ∙ yes! _ _ w)

@@ -1,0 +1,50 @@
+-- `transfer::fetch_from` meets its contract.
+use Rattle.lists.proofs.Rules.{tests, test-yes}
+use Rattle.transfer.specs.Transferred.{fetchAnswer, fetched}
+use Rattle.transfer.proofs.Lending.{lending, fetched-inside}
+use borrow.Author.Needs.{needs}
+use Rattle.transfer.proofs.fetch_from.Statement.{statement}
+use Rattle.transfer.proofs.fetch_from.Tie as tie
+
+fits-requires : tie.Need-fits-requires
+fits-requires c κs = search needs
+
+returns : tie.Need-returns
+unfolding fetchAnswer fetched
+returns c = search tests depth 8
+
+place-of-requires : tie.Need-place-of-requires
+place-of-requires c κs = search needs
+
+sub-fill : tie.Need-sub-fill
+sub-fill c = search lending
+
+part-fill-start : tie.Need-part-fill-start
+part-fill-start c = search lending
+
+part-fill-end : tie.Need-part-fill-end
+part-fill-end c = search needs
+
+fill-requires : tie.Need-fill-requires
+fill-requires c κs = search lending
+
+same-length : tie.Need-same-length
+same-length c = search needs
+
+returns-2 : tie.Need-returns-2
+unfolding fetchAnswer
+returns-2 c = (search tests depth 8, search (fetched-inside, test-yes))
+
+pub fetch-from-spec : {M : Type 1} → statement M
+fetch-from-spec =
+    tie.close
+    (tie.spec
+    fits-requires
+    returns
+    place-of-requires
+    sub-fill
+    part-fill-start
+    part-fill-end
+    fill-requires
+    same-length
+    returns-2)

@@ -1,0 +1,28 @@
+-- `translation::token_used` meets its contract.
+use Rattle.lists.proofs.Rules.{tests}
+use Rattle.model.specs.Tokens.{tokenUsed}
+use borrow.Author.Needs.{needs}
+use Rattle.translation.proofs.token_used.Statement.{statement}
+use Rattle.translation.proofs.token_used.Tie as tie
+
+returns : tie.Need-returns
+unfolding tokenUsed
+returns c = search (tests, needs) depth 8
+
+returns-2 : tie.Need-returns-2
+unfolding tokenUsed
+returns-2 c = search (tests, needs) depth 8
+
+mul-result : tie.Need-mul-result
+mul-result c = search needs
+
+element-copy-out-result : tie.Need-element-copy-out-result
+element-copy-out-result c = search needs
+
+returns-3 : tie.Need-returns-3
+unfolding tokenUsed
+returns-3 c = search (tests, needs) depth 8
+
+pub token-used-spec : {M : Type 1} → statement M
+token-used-spec =
+    tie.close (tie.spec returns returns-2 mul-result element-copy-out-result returns-3)
