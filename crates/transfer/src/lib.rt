@@ -1,6 +1,5 @@
 // What follows translation: the checks 17 and 18, and the bytes moved.
 ghost use Prim.Native.Nat.{_≤_};
-ghost use mathlib.Core.Bool.{true};
 ghost use mathlib.Core.Path.{_≡_};
 ghost use lib.ListN.{length};
 ghost use Rattle.transfer.specs.Transferred.{RunIn, inside, placeIn, fetchAnswer, fetched, storeAnswer, stored};

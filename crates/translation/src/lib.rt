@@ -1,6 +1,5 @@
 // From a register to a space and a right: the token used, and host access-register translation.
 ghost use Prim.Native.Nat.{_≤_, _<_};
-ghost use mathlib.Core.Bool.{true};
 ghost use mathlib.Core.Path.{_≡_};
 ghost use Rattle.translation.specs.Translated.{tokenPlace, translatedBy};
 ghost use Rattle.model.specs.Tokens.{tokenUsed};
