@@ -1,11 +1,7 @@
 pub mod Rules
-pub mod Loops
-pub mod Tables
-pub mod Slots
 pub mod Held
-pub mod Same
 pub mod Tags
-pub mod Parts
-pub mod Permits
-pub mod Entries
+pub mod SlotLoop
+pub mod Counts
+pub mod GuestLoop
 pub mod Whole

@@ -7,7 +7,6 @@ use mathlib.Core.Path.{_≡_, refl, sym, ap, _∙_}
 use native.Mathlib.Decide.{ℕ-discrete, decLe}
 use native.Mathlib.Omega.{arith}
 use lib.Dec.{eqb}
-use lib.ListN.{getD}
 use borrow.Author.Tests.{eq-eqb, ne-eqb}
 use Rattle.lists.specs.Choice.{choose}
 use Rattle.lists.specs.Decides.{Decides}
@@ -23,17 +22,14 @@ use Rattle.model.specs.SoundTest.{slotTest}
 use Rattle.model.specs.Tables.{noSpace, spaceAt}
 use Rattle.model.proofs.Searches.{d-live, enrolled-guest}
 use Rattle.model.proofs.SoundParts.{slot-decides}
-use Rattle.sound.proofs.Same.{same-by}
-use Rattle.sound.specs.Columns.{Filled, tagAt, slotsTest, Owners, tagCount}
+use Rattle.permitted.specs.Columns.{Filled, Owners, ownerIn, OwnersOf}
+use Rattle.permitted.specs.Elements.{Owned, OwnerIs}
+use Rattle.permitted.proofs.Same.{same-by}
+use Rattle.sound.specs.Columns.{tagAt, slotsTest, tagCount}
 use Rattle.sound.specs.Elements.{tagOf}
 
 -- a slot is empty, or its owner is a guest
-pub record Owned (x : Space) : Type 0 where
-  pub live : 1 ≤ x .id
-  pub low : 1 ≤ x .owner
-  pub high : x .owner ≤ 8
-
-pub owned-or-empty : (f n : ℕ) (gs : List Guest) (x : Space) → slotTest f n gs x ≡ true → Owned x ⊎ (x ≡ noSpace)
+owned-or-empty : (f n : ℕ) (gs : List Guest) (x : Space) → slotTest f n gs x ≡ true → Owned x ⊎ (x ≡ noSpace)
 owned-or-empty f n gs x e = go (decLe 1 (x .id))
   where
     go : Dec (1 ≤ x .id) → Owned x ⊎ (x ≡ noSpace)
@@ -53,14 +49,14 @@ tag-none : tagOf noSpace ≡ 0
 unfolding tagOf choose
 tag-none = refl
 
-pub tag-owner : (x : Space) → Owned x → tagOf x % 16 ≡ x .owner
+tag-owner : (x : Space) → Owned x → tagOf x % 16 ≡ x .owner
 tag-owner x o = go (ℕ-discrete (x .name) baseName)
   where
     go : Dec (x .name ≡ baseName) → tagOf x % 16 ≡ x .owner
     go (yes e) = let h = o .high in omega (arith, tag-base x o e)
     go (no e) = let h = o .high in omega (arith, tag-data x o e)
 
-pub tag-empty : (x : Space) → x ≡ noSpace → tagOf x % 16 ≡ 0
+tag-empty : (x : Space) → x ≡ noSpace → tagOf x % 16 ≡ 0
 tag-empty x e = ap (λ y. tagOf y % 16) e ∙ ap (λ t. t % 16) tag-none
 
 d-owned : (g : ℕ) (x : Space) → Decides (isOwned g x) ((1 ≤ x .id) × (x .owner ≡ g))
@@ -94,22 +90,23 @@ module _ (x : Space) (k : ℕ) (b : k < 8) where
 
 -- all slots
 module _ (f n : ℕ) (gs : List Guest) (ss : List Space) (ts : List ℕ) (ok : slotsTest f n gs ss ≡ true) (tagged : Filled ts (tagAt ss) 32) where
-  pub slot-owned : (u : ℕ) → u < 32 → Owned (spaceAt ss u) ⊎ (spaceAt ss u ≡ noSpace)
+  slot-owned : (u : ℕ) → u < 32 → Owned (spaceAt ss u) ⊎ (spaceAt ss u ≡ noSpace)
   slot-owned u l = owned-or-empty f n gs (spaceAt ss u) (every-at (λ v. slotTest f n gs (spaceAt ss v)) 32 ok u l)
 
-  -- the owner in a slot's tag
-  pub owner-is : (u : ℕ) → u < 32 → Owned (spaceAt ss u) → getD ts u 0 % 16 ≡ spaceAt ss u .owner
-  owner-is u l w = ap (λ t. t % 16) (tagged .at u l) ∙ tag-owner (spaceAt ss u) w
-
-  pub nobody-is : (u : ℕ) → u < 32 → spaceAt ss u ≡ noSpace → getD ts u 0 % 16 ≡ 0
-  nobody-is u l e = ap (λ t. t % 16) (tagged .at u l) ∙ tag-empty (spaceAt ss u) e
+  -- the owners in the tags
+  pub tag-owners-of : OwnersOf ss ts
+  tag-owners-of = record { at = λ u l. told u l (slot-owned u l) }
+    where
+      told : (u : ℕ) → u < 32 → Owned (spaceAt ss u) ⊎ (spaceAt ss u ≡ noSpace) → OwnerIs (spaceAt ss u) (ownerIn ts u)
+      told u l (inl w) = inl (w, ap (λ t. t % 16) (tagged .at u l) ∙ tag-owner (spaceAt ss u) w)
+      told u l (inr e) = inr (e, ap (λ t. t % 16) (tagged .at u l) ∙ tag-empty (spaceAt ss u) e)
 
   pub tag-owners : Owners ts
-  tag-owners = record { below = λ u l. small u l (slot-owned u l) }
+  tag-owners = record { below = λ u l. small u (tag-owners-of .at u l) }
     where
-      small : (u : ℕ) → u < 32 → Owned (spaceAt ss u) ⊎ (spaceAt ss u ≡ noSpace) → getD ts u 0 % 16 ≤ 8
-      small u l (inl w) = let h = w .high in omega (arith, owner-is u l w)
-      small u l (inr e) = omega (arith, nobody-is u l e)
+      small : (u : ℕ) → OwnerIs (spaceAt ss u) (ownerIn ts u) → ownerIn ts u ≤ 8
+      small u (inl (w, e)) = omega (arith, w .high, e)
+      small u (inr (_, z)) = omega (arith, z)
 
   -- the counts of the tags are those of the spaces
   module _ (k : ℕ) (b : k < 8) where

@@ -1,21 +1,31 @@
 -- What each test of the code says of the whole: where one fails the state is not sound, and the last one says whether it is.
 -- Assumes nothing.
-use Prim.Native.Nat.{ℕ, _+_, _*_, _<_}
+use Prim.Native.Nat.{ℕ}
 use mathlib.Core.Bool.{Bool, true, false, not}
 use mathlib.Core.List.{List}
 use mathlib.Core.Path.{_≡_, sym, _∙_}
-use lib.ListN.{getD}
-use borrow.Author.Tests.{not-false}
+use lib.ListN.{length}
+use borrow.Author.Tests.{eq-eqb, not-false}
 use Rattle.lists.specs.Choice.{both}
 use Rattle.lists.proofs.Choice.{both-yes, both-no}
 use Rattle.lists.proofs.Rules.{test-no, test-yes}
+use Rattle.model.specs.declared.Guest.{Guest}
+use Rattle.model.specs.declared.Space.{Space}
 use Rattle.model.specs.declared.State.{State}
 use Rattle.model.specs.SoundTest.{sound, headTest, apartTest, spacesTest, guestsTest, permitsTest}
-use Rattle.sound.proofs.Entries.{entries-is}
-use Rattle.sound.proofs.Parts.{spaces-is, guests-is}
-use Rattle.sound.proofs.Permits.{permits-is, standing-is}
-use Rattle.sound.specs.Columns.{Filled, tagAt, slotsTest, Owners, Slots, guestsWith, numberAt, powerAt, Permits, standingsWith, aboveTest}
+use Rattle.permitted.specs.Columns.{Filled, Owners, OwnersOf, PowersOf, Permits}
+use Rattle.permitted.proofs.Permits.{permits-is}
+use Rattle.listed.specs.Standings.{standingsWith, aboveTest}
+use Rattle.listed.proofs.Entries.{entries-is}
+use Rattle.listed.proofs.Valid.{standing-is}
+use Rattle.sound.proofs.GuestLoop.{guests-is}
+use Rattle.sound.proofs.Tags.{tag-owners-of}
+use Rattle.sound.specs.Columns.{tagAt, slotsTest, Slots, guestsWith}
 use Rattle.sound.specs.Held.{Held}
+
+spaces-is : (f n : ℕ) (gs : List Guest) (ss : List Space) → length ss ≡ 32 → both (slotsTest f n gs ss) (apartTest ss) ≡ spacesTest f n gs ss
+unfolding spacesTest
+spaces-is f n gs ss len = sym (both-yes _ (eq-eqb (length ss) 32 len))
 
 -- the tests passed so far
 pub record HeadPassed (s : State) : Type 0 where
@@ -36,10 +46,10 @@ pub record GuestsPassed (s : State) : Type 0 where
 
 pub record PermitsPassed (s : State) (ws : List ℕ) : Type 0 where
   pub before : GuestsPassed s
-  pub ts : List ℕ
-  pub tags : Filled ts (tagAt (s .spaces)) 32
   pub permits : permitsTest (s .guests) (s .spaces) (s .permits) ≡ true
-  pub powers : (u k : ℕ) → u < 32 → k < 8 → getD ws (u * 8 + k) 0 ≡ powerAt ts u k (numberAt (s .permits) (u * 8 + k))
+  pub ts : List ℕ
+  pub owners : OwnersOf (s .spaces) ts
+  pub powers : PowersOf (s .permits) ts ws
 
 module _ (s : State) (r : Bool) where
   module _ (e : r ≡ headTest (s .frames) (s .next)) where
@@ -89,17 +99,18 @@ module _ (s : State) (r : Bool) where
     guests-yes t = record { before = p; guests = test-yes r _ guests-said t }
 
   module _ (ts ws : List ℕ) (said : Permits r (s .guests) (s .permits) ts ws) (tags : Filled ts (tagAt (s .spaces)) 32) (p : GuestsPassed s) where
+    owners-said : OwnersOf (s .spaces) ts
+    owners-said = tag-owners-of (s .frames) (s .next) (s .guests) (s .spaces) ts (p .before .before .slots) tags
+
     permits-said : r ≡ permitsTest (s .guests) (s .spaces) (s .permits)
-    permits-said =
-        let q = p .before .before in
-        said .test ∙ permits-is (s .frames) (s .next) (s .guests) (s .spaces) (s .permits) ts (q .slots) tags (q .before .held .permits)
+    permits-said = said .test ∙ permits-is (s .guests) (s .spaces) (s .permits) ts owners-said (p .before .before .before .held .permits)
 
     pub permits-no : not r ≡ true → false ≡ sound s
     unfolding sound
     permits-no t = sym (both-yes _ (p .before .before .before .head) ∙ both-yes _ (p .before .spaces) ∙ both-yes _ (p .guests) ∙ both-no _ (test-no r _ permits-said t))
 
     pub permits-yes : not r ≡ false → PermitsPassed s ws
-    permits-yes t = record { before = p; ts = ts; tags = tags; permits = test-yes r _ permits-said t; powers = said .table (not-false r t) }
+    permits-yes t = record { before = p; permits = test-yes r _ permits-said t; ts = ts; owners = owners-said; powers = said .table (not-false r t) }
 
 module _ (s : State) (r : Bool) (ws : List ℕ) (e : r ≡ standingsWith ws (s .entries)) (p : PermitsPassed s ws) where
   last-is : both (standingsWith ws (s .entries)) (aboveTest (s .guests) (s .entries)) ≡ sound s
@@ -108,7 +119,7 @@ module _ (s : State) (r : Bool) (ws : List ℕ) (e : r ≡ standingsWith ws (s .
       let q = p .before .before .before in
       let h = q .before .held in
       entries-is (s .guests) (s .spaces) (s .permits) (s .entries) ws (h .sequence)
-      (standing-is (s .frames) (s .next) (s .guests) (s .spaces) (s .permits) (p .ts) (q .slots) (p .tags) ws (p .permits) (p .powers)) (h .entries)
+      (standing-is (s .guests) (s .spaces) (s .permits) (p .ts) ws (p .owners) (p .permits) (p .powers)) (h .entries)
       ∙ sym (both-yes _ (q .before .head) ∙ both-yes _ (p .before .before .spaces) ∙ both-yes _ (p .before .guests) ∙ both-yes _ (p .permits))
 
   pub standings-no : not r ≡ true → false ≡ sound s

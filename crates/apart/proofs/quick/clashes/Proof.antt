@@ -1,0 +1,52 @@
+-- `apart::quick::clashes` meets its contract. Assumes nothing.
+use Prim.Native.Nat.{_+_, _-_}
+use Rattle.apart.specs.Warns.{ClearAt}
+use Rattle.apart.proofs.Warns.{Sum, sums}
+use borrow.Author.Needs.{needs}
+use Rattle.apart.proofs.quick.clashes.Statement.{statement}
+use Rattle.apart.proofs.quick.clashes.Tie as tie
+
+abbrev Inv-loop : tie.InvT-loop
+Inv-loop ids names firsts ends n₀ d₀ n d = Sum (λ k. ClearAt ids names firsts ends (k + 1)) 96 16 d n
+
+abbrev μ-loop : tie.MeasureT-loop
+μ-loop ids names firsts ends n₀ d₀ n d = 16 - d
+
+loop-holds : tie.Need-loop-holds Inv-loop μ-loop
+loop-holds c = search sums
+
+add-clashes-at : tie.Need-add-clashes-at Inv-loop μ-loop
+add-clashes-at c = search needs
+
+clashes-at-requires : tie.Need-clashes-at-requires Inv-loop μ-loop
+clashes-at-requires c κs = search needs
+
+add-n : tie.Need-add-n Inv-loop μ-loop
+add-n c = search needs
+
+add-d : tie.Need-add-d Inv-loop μ-loop
+add-d c = search needs
+
+loop-less : tie.Need-loop-less Inv-loop μ-loop
+loop-less c = search needs
+
+loop-again : tie.Need-loop-again Inv-loop μ-loop
+loop-again c = search sums depth 6
+
+returns : tie.Need-returns Inv-loop μ-loop
+returns c = search sums
+
+pub clashes-spec : {M : Type 1} → statement M
+clashes-spec =
+    tie.close
+    (tie.spec
+    Inv-loop
+    μ-loop
+    loop-holds
+    add-clashes-at
+    clashes-at-requires
+    add-n
+    add-d
+    loop-less
+    loop-again
+    returns)

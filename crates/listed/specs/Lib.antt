@@ -1,0 +1,2 @@
+-- What the entries of access lists are tested by.
+pub mod Standings

@@ -1,0 +1,4 @@
+pub mod Loops
+pub mod Tables
+pub mod Same
+pub mod Permits
