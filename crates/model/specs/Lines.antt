@@ -193,6 +193,27 @@ readAll (w ∷ fs) = readBy forms w fs
 unfoldable pub readLine : List ℕ → Request
 readLine l = choose (leb (length l) 600) (readAll (fields l)) NotRead
 
--- the data of a STORE, its last field
+-- Store data stand beside the request, which has their length.
+unfoldable pub isStore : Operation → Bool
+isStore (Enrol pages allowance share list asf) = false
+isStore (Create n pages) = false
+isStore (Destroy id) = false
+isStore (Permit id guest r) = false
+isStore (Isolate id) = false
+isStore (Query owner n) = false
+isStore (Add id r) = false
+isStore (Remove token) = false
+isStore (Load register value) = false
+isStore (Mode m) = false
+isStore (Fetch register address) = false
+isStore (Store register address) = true
+isStore Reset = false
+
+unfoldable pub stores : Request → Bool
+stores (Frames f) = false
+stores (Call k n) = isStore (k .operation)
+stores NotRead = false
+
+-- the data of a line: those of a STORE that was read, its last field; of any other line none
 unfoldable pub dataOf : List ℕ → List ℕ
-dataOf l = hexBytes (getD (fields l) 4 [])
+dataOf l = choose (stores (readLine l)) (hexBytes (getD (fields l) 4 [])) []

@@ -51,23 +51,23 @@ abbrev pub turn : Request → Answer → List ℕ → Session → Turn
 turn r a b s = record { outcome = record { request = r; answer = a; moved = b }; after = s }
 
 -- the buffer of a call: FETCH's length "above 257 .. is carried out as 257"; STORE's is its data
-unfoldable pub bufferFor : Operation → (length : ℕ) → (line : List ℕ) → List ℕ
-bufferFor (Enrol pages allowance share list asf) n l = []
-bufferFor (Create name pages) n l = []
-bufferFor (Destroy id) n l = []
-bufferFor (Permit id guest right) n l = []
-bufferFor (Isolate id) n l = []
-bufferFor (Query owner name) n l = []
-bufferFor (Add id right) n l = []
-bufferFor (Remove token) n l = []
-bufferFor (Load register value) n l = []
-bufferFor (Mode m) n l = []
-bufferFor (Fetch register address) n l = replicate (min n 257) 0
-bufferFor (Store register address) n l = dataOf l
-bufferFor Reset n l = []
+unfoldable pub bufferFor : Operation → (length : ℕ) → (bytes : List ℕ) → List ℕ
+bufferFor (Enrol pages allowance share list asf) n d = []
+bufferFor (Create name pages) n d = []
+bufferFor (Destroy id) n d = []
+bufferFor (Permit id guest right) n d = []
+bufferFor (Isolate id) n d = []
+bufferFor (Query owner name) n d = []
+bufferFor (Add id right) n d = []
+bufferFor (Remove token) n d = []
+bufferFor (Load register value) n d = []
+bufferFor (Mode m) n d = []
+bufferFor (Fetch register address) n d = replicate (min n 257) 0
+bufferFor (Store register address) n d = d
+bufferFor Reset n d = []
 
-abbrev pub issueOf : Call → (length : ℕ) → (line : List ℕ) → Issue
-issueOf k n l = record { call = k; buffer = bufferFor (k .operation) n l }
+abbrev pub issueOf : Call → (length : ℕ) → (bytes : List ℕ) → Issue
+issueOf k n d = record { call = k; buffer = bufferFor (k .operation) n d }
 
 -- a call is a step of the model
 abbrev pub callTurn : Session → Request → Outcome → Turn
@@ -82,16 +82,16 @@ framesTurn s f =
     (turn (request.Frames f) (Done 0) [] (record { begun = true; tables = emptyTables f 1; scratch = s .scratch }))
     (turn (request.Frames f) (Limit FrameCount 1) [] s))
 
-unfoldable pub requestTurn : Session → (line : List ℕ) → Request → Turn
-requestTurn s l (request.Frames f) = framesTurn s f
-requestTurn s l (request.Call k n) =
+unfoldable pub requestTurn : Session → Request → (bytes : List ℕ) → Turn
+requestTurn s (request.Frames f) d = framesTurn s f
+requestTurn s (request.Call k n) d =
     choose (s .begun)
-    (callTurn s (request.Call k n) (step (machineOf s) (issueOf k n l)))
+    (callTurn s (request.Call k n) (step (machineOf s) (issueOf k n d)))
     (turn (request.Call k n) LineNotRead [] s)
-requestTurn s l request.NotRead = turn request.NotRead LineNotRead [] s
+requestTurn s request.NotRead d = turn request.NotRead LineNotRead [] s
 
 abbrev pub lineTurn : Session → (line : List ℕ) → Turn
-lineTurn s l = requestTurn s l (readLine l)
+lineTurn s l = requestTurn s (readLine l) (dataOf l)
 
 -- "A line ends at a newline byte or, if it has a byte, at the end of input." `held` is what stands before.
 unfoldable pub linesFrom : (held : List ℕ) → List ℕ → List (List ℕ)
