@@ -3,22 +3,19 @@ use Prim.Native.Nat.{ℕ, zero, suc, _+_, _-_, _≤_, _<_}
 use mathlib.Core.Bool.{Bool, true, false}
 use mathlib.Core.List.{List, [], _∷_}
 use mathlib.Core.Path.{_≡_, refl, sym, ap, _∙_}
-use native.Mathlib.Numerals.{add-one}
 use native.Mathlib.Omega.{arith}
 use lib.Dec.{eqb}
 use lib.ListN.{length, getD, take, drop, length-drop, drop-of-length-le}
-use lib.Seq.{drop-cons, take-nil, take-all}
+use lib.Seq.{take-nil, take-all}
 use Rattle.lists.proofs.Choice.{yes!, no! }
 use Rattle.lists.proofs.Places.{lowest-yes, lowest-no, lowest-end}
 use Rattle.model.specs.Lines.{fields}
+use Rattle.fields.proofs.Turns.{drop-turn}
 use Rattle.lines.specs.Fields.{tabFrom, following, later}
 
 -- what is left of a line from place i on, cut at e: a field, and the fields that follow it
 abbrev Cut : List ℕ → ℕ → ℕ → Type 0
 Cut l i e = (i ≤ e) × (fields (drop i l) ≡ take (e - i) (drop i l) ∷ following (drop e l))
-
-drop-turn : (l : List ℕ) (i : ℕ) → i < length l → drop i l ≡ getD l i 0 ∷ drop (i + 1) l
-drop-turn l i h = rw (add-one i, drop-cons l i 0)
 
 cut-end : (l : List ℕ) (i : ℕ) → length l ≤ i → Cut l i i
 unfolding fields following

@@ -11,13 +11,14 @@ use Rattle.lists.proofs.Choice.{yes!, no! }
 use Rattle.model.specs.declared.Request.{Request}
 use Rattle.model.specs.declared.Request.the-variants.{NotRead}
 use Rattle.model.specs.Lines.{nameField, forms, makeBy, readFields, readBy, readAll, readLine}
-use Rattle.lines.specs.declared.Field.{Field}
-use Rattle.lines.specs.declared.Field.the-variants.{Is, Bad}
-use Rattle.lines.specs.Fields.{asField, tabFrom, following}
+use Rattle.fields.specs.declared.Field.{Field}
+use Rattle.fields.specs.declared.Field.the-variants.{Is, Bad}
+use Rattle.fields.specs.Fields.{asField}
+use Rattle.lines.specs.Fields.{tabFrom, following}
 use Rattle.lines.specs.Tables.{formAt, placeOf}
 use Rattle.lines.proofs.Cuts.{fields-at}
-use Rattle.lines.proofs.Spelling.{as-is, as-bad}
-use Rattle.lines.proofs.Turns.{Bytes}
+use Rattle.fields.proofs.Spelling.{as-is, as-bad}
+use Rattle.fields.proofs.Turns.{Bytes}
 use Rattle.lines.proofs.Words.{take-bytes, read-unnamed, read-unknown, read-known}
 
 pub line-long : (l : List ℕ) → 600 < length l → NotRead ≡ readLine l

@@ -10,14 +10,16 @@ use lib.Seq.{take-all}
 use borrow.Author.Tests.{leb-true}
 use Rattle.lists.specs.Bytes.{over}
 use Rattle.lists.specs.Choice.{choose}
-use Rattle.lists.proofs.Choice.{true-false, both-left, both-right}
+use Rattle.lists.proofs.Choice.{yes!, no!, true-false, both-left, both-right}
+use Rattle.model.specs.declared.Request.{Request}
 use Rattle.model.specs.declared.Request.the-variants.{NotRead}
-use Rattle.model.specs.Lines.{fields, is, hexDigits, hexField, hexBytes, number, hex, fieldOf, Values, values, unread, readFields, Form, forms, at, sameBytes, makeBy, readBy, readAll, readLine, dataOf}
+use Rattle.model.specs.Lines.{fields, is, hexDigits, hexField, hexBytes, number, hex, fieldOf, Values, values, unread, readFields, Form, forms, at, sameBytes, makeBy, readBy, readAll, readLine, isStore, stores, dataOf}
 use Rattle.lines.specs.Fields.{later}
-use Rattle.lines.specs.Stores.{isStore, stores, lengthOf}
+use Rattle.lines.specs.Stores.{lengthOf}
 use Rattle.lines.proofs.Cuts.{last-field}
-use Rattle.lines.proofs.Decoding.{bytes-length}
-use Rattle.lines.proofs.Values.{spelt-is, first-of, none-of}
+use Rattle.fields.proofs.Decoding.{bytes-length}
+use Rattle.fields.proofs.Spelling.{spelt-is}
+use Rattle.lines.proofs.Values.{first-of, none-of}
 
 -- the fields after the name of a store: three, and n bytes of data
 record Store (fs : List (List ℕ)) (n : ℕ) : Type 0 where
@@ -100,13 +102,16 @@ hex-length f n e =
     let l = leb-true (length f) 514 (both-right _ _ (both-left _ _ (s .0))) in
     (bytes-length f ∙ s .1, omega (arith, s .1))
 
-data-hex : (l : List ℕ) → stores (readLine l) ≡ true → (length (dataOf l) ≡ lengthOf (readLine l)) × (lengthOf (readLine l) ≤ 257)
+data-stored : (l : List ℕ) → stores (readLine l) ≡ true → dataOf l ≡ hexBytes (getD (fields l) 4 [])
 unfolding dataOf
+data-stored l y = yes! _ _ y
+
+data-hex : (l : List ℕ) → stores (readLine l) ≡ true → (length (dataOf l) ≡ lengthOf (readLine l)) × (lengthOf (readLine l) ≤ 257)
 data-hex l y =
     let f = five-fields l y in
     let e : getD (fields l) 4 [] ≡ f .store .hexes = ap (λ x. getD x 4 []) (f .are ∙ ap (λ x. f .word ∷ x) (f .store .are)) in
     let h = hex-length (f .store .hexes) (lengthOf (readLine l)) (f .store .count) in
-    (ap (λ x. length (hexBytes x)) e ∙ h .0, h .1)
+    (ap length (data-stored l y ∙ ap hexBytes e) ∙ h .0, h .1)
 
 pub data-length : (l : List ℕ) → stores (readLine l) ≡ true → length (dataOf l) ≡ lengthOf (readLine l)
 data-length l y = data-hex l y .0
@@ -114,19 +119,33 @@ data-length l y = data-hex l y .0
 pub data-most : (l : List ℕ) → stores (readLine l) ≡ true → lengthOf (readLine l) ≤ 257
 data-most l y = data-hex l y .1
 
+-- any other line has none
+pub data-none : (l : List ℕ) → stores (readLine l) ≡ false → dataOf l ≡ []
+unfolding dataOf
+data-none l n = no! _ _ n
+
+-- what the code's test of the request tells
+module _ (l : List ℕ) (r : Request) (b : Bool) (e : r ≡ readLine l) (t : b ≡ stores r) where
+  pub store-line : b ≡ true → stores (readLine l) ≡ true
+  store-line y = ap stores (sym e) ∙ sym t ∙ y
+
+  pub other-line : (o : List ℕ) → b ≡ false → o ≡ over o 0 (dataOf l)
+  unfolding over
+  other-line o n = sym (ap (over o 0) (data-none l (ap stores (sym e) ∙ sym t ∙ n)))
+
 -- Where each field after the name starts, up to the data, which are all that is left of the line.
 module _ (l : List ℕ) (caller register address start : ℕ) (y : stores (readLine l) ≡ true)
     (a : fields (drop caller l) ≡ later (fields (drop 0 l))) (b : fields (drop register l) ≡ later (fields (drop caller l)))
     (c : fields (drop address l) ≡ later (fields (drop register l))) (d : fields (drop start l) ≡ later (fields (drop address l))) where
   rest-is : (hexField (take (length l - start) (drop start l)) ≡ is (lengthOf (readLine l))) × (hexBytes (take (length l - start) (drop start l)) ≡ dataOf l)
-  unfolding later dataOf
+  unfolding later
   rest-is =
       let f = five-fields l y in
       let s = f .store in
       let e : fields l ≡ f .word ∷ s .caller ∷ s .register ∷ s .address ∷ s .hexes ∷ [] = f .are ∙ ap (λ x. f .word ∷ x) (s .are) in
       let g : fields (drop start l) ≡ s .hexes ∷ [] = d ∙ ap later (c ∙ ap later (b ∙ ap later (a ∙ ap later e))) in
       let h : take (length l - start) (drop start l) ≡ s .hexes = take-all (length l - start) (drop start l) (omega (arith, length-drop start l)) ∙ last-field (drop start l) (s .hexes) g in
-      (ap hexField h ∙ s .count, ap hexBytes (h ∙ sym (ap (λ x. getD x 4 []) e)))
+      (ap hexField h ∙ s .count, ap hexBytes (h ∙ sym (ap (λ x. getD x 4 []) e)) ∙ sym (data-stored l y))
 
   rest-good : (hexDigits (take (length l - start) (drop start l)) ≡ true) × (length (take (length l - start) (drop start l)) / 2 ≡ lengthOf (readLine l))
   unfolding hexField
@@ -135,11 +154,8 @@ module _ (l : List ℕ) (caller register address start : ℕ) (y : stores (readL
   pub data-digits : hexDigits (take (length l - start) (drop start l)) ≡ true
   data-digits = rest-good .0
 
-  pub data-room : (m : ℕ) → lengthOf (readLine l) ≤ m → length (take (length l - start) (drop start l)) / 2 ≤ m
-  data-room m h = omega (arith, rest-good .1)
-
-  pub data-count : (r : ℕ) → r ≡ length (take (length l - start) (drop start l)) / 2 → r ≡ lengthOf (readLine l)
-  data-count r e = e ∙ rest-good .1
+  pub data-room : (m : ℕ) → 257 ≤ m → length (take (length l - start) (drop start l)) / 2 ≤ m
+  data-room m h = omega (arith, rest-good .1, data-most l y)
 
   pub data-is : (o t : List ℕ) → t ≡ over o 0 (hexBytes (take (length l - start) (drop start l))) → t ≡ over o 0 (dataOf l)
   data-is o t e = e ∙ ap (over o 0) (rest-is .1)

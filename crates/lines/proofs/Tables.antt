@@ -5,51 +5,18 @@ use mathlib.Core.Path.{_≡_, refl, sym, ap, _∙_}
 use native.Mathlib.Omega.{arith}
 use lib.Dec.{eqb, leb}
 use lib.ListN.{length, getD, List·getD-map, List·getD-eq-default}
-use borrow.Author.Tests.{leb-true, ne-eqb}
-use Rattle.lists.specs.Choice.{choose, both}
+use borrow.Author.Tests.{leb-true}
+use Rattle.lists.specs.Choice.{both}
 use Rattle.lists.specs.Places.{every, allFrom, lowest, lowestFrom}
-use Rattle.lists.proofs.Choice.{no! }
 use Rattle.lists.proofs.Places.{every-at}
-use Rattle.lines.specs.declared.Field.{Field}
-use Rattle.lines.specs.Fields.{asField}
-use Rattle.lines.specs.Tables.{formAt, kindNumber, kindOf, shapeOf, callNames, callShapes, placeOf, lowered, madeBy}
+use Rattle.fields.specs.Fields.{kindNumber, kindOf}
+use Rattle.fields.proofs.KindNumbers.{kind-is, kind-small}
+use Rattle.lines.specs.Tables.{formAt, shapeOf, callNames, callShapes, placeOf, lowered, madeBy}
 use Rattle.model.specs.declared.Request.{Request}
 use Rattle.model.specs.declared.Request.the-variants.{NotRead}
-use Rattle.model.specs.Lines.{FieldKind, number, name, right, hex, forms, fieldOf, numberField, nameField, rightField, hexField}
-
--- kinds as numbers
-pub kind-is : (k : FieldKind) → kindOf (kindNumber k) ≡ k
-unfolding kindOf kindNumber choose
-kind-is number = refl
-kind-is name = refl
-kind-is right = refl
-kind-is hex = refl
-
-pub field-number : (r : Field) (k : ℕ) (f : List ℕ) → k ≡ 1 → r ≡ asField (numberField f) → r ≡ asField (fieldOf (kindOf k) f)
-unfolding fieldOf kindOf choose
-field-number r k f e p = rw e p
-
-pub field-name : (r : Field) (k : ℕ) (f : List ℕ) → k ≡ 2 → r ≡ asField (nameField f) → r ≡ asField (fieldOf (kindOf k) f)
-unfolding fieldOf kindOf choose
-field-name r k f e p = rw e p
-
-pub field-right : (r : Field) (k : ℕ) (f : List ℕ) → k ≡ 3 → r ≡ asField (rightField f) → r ≡ asField (fieldOf (kindOf k) f)
-unfolding fieldOf kindOf choose
-field-right r k f e p = rw e p
-
-pub field-hex : (r : Field) (k : ℕ) (f : List ℕ) → (k ≡ 1 → ⊥) → (k ≡ 2 → ⊥) → (k ≡ 3 → ⊥) → r ≡ asField (hexField f) → r ≡ asField (fieldOf (kindOf k) f)
-unfolding fieldOf kindOf
-field-hex r k f a b c p =
-    p ∙ ap (λ x. asField (fieldOf x f)) (sym (no! _ _ (ne-eqb k 1 a) ∙ no! _ _ (ne-eqb k 2 b) ∙ no! _ _ (ne-eqb k 3 c)))
+use Rattle.model.specs.Lines.{FieldKind, forms}
 
 -- shapes
-kind-small : (k : FieldKind) → (1 ≤ kindNumber k) × (kindNumber k ≤ 4)
-unfolding kindNumber
-kind-small number = omega arith
-kind-small name = omega arith
-kind-small right = omega arith
-kind-small hex = omega arith
-
 pub shape-none : (k : FieldKind) (ks : List FieldKind) → shapeOf (k ∷ ks) ≡ 0 → ⊥
 unfolding shapeOf
 shape-none k ks e = omega (arith, kind-small k)

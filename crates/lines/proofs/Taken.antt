@@ -7,13 +7,14 @@ use native.Mathlib.Numerals.{add-one}
 use native.Mathlib.Omega.{arith}
 use lib.ListN.{length, getD, take, drop, set, replicate, length-set, length-drop, drop-of-length-le}
 use lib.Seq.{drop-drop, getD-take, take-suc-set}
-use Rattle.lines.specs.declared.Field.{Field}
-use Rattle.lines.specs.declared.Field.the-variants.{Is, Bad}
-use Rattle.lines.specs.Fields.{asField, tabFrom, following}
-use Rattle.lines.specs.Tables.{formAt, kindOf, shapeOf, lowered, madeBy}
+use Rattle.fields.specs.declared.Field.{Field}
+use Rattle.fields.specs.declared.Field.the-variants.{Is, Bad}
+use Rattle.fields.specs.Fields.{asField, kindOf}
+use Rattle.lines.specs.Fields.{tabFrom, following}
+use Rattle.lines.specs.Tables.{formAt, shapeOf, lowered, madeBy}
 use Rattle.lines.proofs.Cuts.{fields-at, following-at}
 use Rattle.lines.proofs.Values.{lowered-is}
-use Rattle.lines.proofs.Spelling.{as-is, as-bad}
+use Rattle.fields.proofs.Spelling.{as-is, as-bad}
 use Rattle.lines.proofs.Tables.{few-fields, shape-none, shape-first, shape-rest}
 use Rattle.model.specs.declared.Request.{Request}
 use Rattle.model.specs.declared.Request.the-variants.{NotRead}

@@ -1,20 +1,15 @@
 -- The values of fields that were read. A number or a count fits 32 bits, so that its lower 32 bits are all of it. Assumes
 -- nothing.
 use Prim.Native.Nat.{ℕ, suc, _+_, _/_, _<_}
-use mathlib.Core.Bool.{Bool, true, false}
 use mathlib.Core.List.{List, [], _∷_}
 use mathlib.Core.Path.{_≡_, refl, sym, ap, ap₂, _∙_}
 use native.Mathlib.Omega.{arith}
 use lib.ListN.{length}
 use borrow.Author.Tests.{leb-true}
 use Rattle.lists.proofs.Choice.{both-left, both-right}
+use Rattle.fields.proofs.Spelling.{spelt-is}
 use Rattle.lines.specs.Tables.{low, lowered}
-use Rattle.model.specs.Lines.{Spelt, is, bad, spelt, numberField, decimalFrom, hexField, FieldKind, number, name, right, hex, fieldOf, Values, values, unread, andThen, readFields, at}
-
-pub spelt-is : (t : Bool) (m n : ℕ) → spelt t m ≡ is n → (t ≡ true) × (m ≡ n)
-unfolding spelt
-spelt-is true m n e = (refl, cc)
-spelt-is false m n e = let z : _≡_ {A = ℕ} 0 1 = cc in absurd (omega arith)
+use Rattle.model.specs.Lines.{Spelt, is, bad, numberField, decimalFrom, hexField, FieldKind, number, name, right, hex, fieldOf, Values, values, unread, andThen, readFields, at}
 
 low-same : (k : FieldKind) (f : List ℕ) (n : ℕ) → fieldOf k f ≡ is n → low k n ≡ n
 unfolding fieldOf low numberField hexField

@@ -13,9 +13,9 @@ use Rattle.lists.proofs.Choice.{yes!, no!, both-left, both-right, both-intro, n
 use Rattle.lists.proofs.Places.{every-at, lowest-holds, lowest-least}
 use Rattle.model.specs.declared.Request.the-variants.{NotRead}
 use Rattle.model.specs.Lines.{is, bad, spelt, noBlank, packed, packedName, nameField, Form, forms, sameBytes, makeBy, readFields, readBy}
-use Rattle.lines.proofs.Turns.{Bytes}
+use Rattle.fields.proofs.Turns.{Bytes}
 use Rattle.lines.specs.Tables.{formAt, callNames, placeOf}
-use Rattle.lines.proofs.Values.{spelt-is}
+use Rattle.fields.proofs.Spelling.{spelt-is}
 
 -- two names of bytes that are the same number are the same name
 tail-bytes : (b : ℕ) (f : List ℕ) → Bytes (b ∷ f) → Bytes f

@@ -1,17 +1,10 @@
--- The fields of a line, as the code finds them.
-use Prim.Native.Nat.{ℕ, _-_, _<_}
+-- Where the fields of a line stand, as the code finds them.
+use Prim.Native.Nat.{ℕ, _-_}
 use mathlib.Core.List.{List, [], _∷_}
 use lib.Dec.{eqb}
 use lib.ListN.{length, getD}
 use Rattle.lists.specs.Places.{lowestFrom}
-use Rattle.model.specs.Lines.{fields, Spelt, is, bad}
-use Rattle.lines.specs.declared.Field.{Field}
-use Rattle.lines.specs.declared.Field.the-variants.{Is, Bad}
-
--- what a field spells, in the code's type
-unfoldable pub asField : Spelt → Field
-asField (is n) = Is n
-asField bad = Bad
+use Rattle.model.specs.Lines.{fields}
 
 -- the place of the first tab of l from i on, and the length of l where there is none
 abbrev pub tabFrom : List ℕ → ℕ → ℕ

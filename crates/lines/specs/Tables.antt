@@ -3,26 +3,16 @@ use Prim.Native.Nat.{ℕ, _+_, _*_, _%_}
 use mathlib.Core.List.{List, [], _∷_, map}
 use lib.Dec.{eqb}
 use lib.ListN.{getD}
-use Rattle.lists.specs.Choice.{choose}
 use Rattle.lists.specs.Places.{lowest}
 use Rattle.model.specs.declared.Operation.{Operation}
 use Rattle.model.specs.declared.Request.{Request}
 use Rattle.model.specs.declared.Request.the-variants.{Call, NotRead}
 use Rattle.model.specs.Lines.{Form, forms, FieldKind, number, name, right, hex, packedName, at}
+use Rattle.fields.specs.Fields.{kindNumber}
 
 -- the forms by number; none at 14 and above
 abbrev pub formAt : ℕ → Form
 formAt p = getD forms p (record { word = []; kinds = []; make = λ v. NotRead })
-
--- kinds as numbers
-unfoldable pub kindNumber : FieldKind → ℕ
-kindNumber number = 1
-kindNumber name = 2
-kindNumber right = 3
-kindNumber hex = 4
-
-unfoldable pub kindOf : ℕ → FieldKind
-kindOf n = choose (eqb n 1) number (choose (eqb n 2) name (choose (eqb n 3) right hex))
 
 -- the kinds of a call's fields as octal digits, the first the lowest
 unfoldable pub shapeOf : List FieldKind → ℕ

@@ -1,27 +1,19 @@
 // One line of a session, read in place: the request that it spells, and the data of a store. What a line spells is `readLine`
 // of the model, and its data `dataOf`.
-ghost use Prim.Native.Nat.{_+_, _-_, _/_, _≤_, _<_};
+ghost use Prim.Native.Nat.{_≤_, _<_};
 ghost use mathlib.Core.Bool.{true};
 ghost use mathlib.Core.Path.{_≡_};
 ghost use lib.ListN.{length, drop};
 ghost use Rattle.lists.specs.Bytes.{over};
-ghost use Rattle.model.specs.Lines.{fields, hexDigit, hexValue, hexDigits, hexBytes, readFields, makeBy, rightOf, readLine, dataOf};
+ghost use Rattle.model.specs.Lines.{fields, readFields, makeBy, rightOf, readLine, stores, dataOf};
 ghost use Rattle.lines.specs.Fields.{tabFrom, following, later};
 ghost use Rattle.lines.specs.Tables.{formAt, shapeOf, callNames, callShapes, placeOf, askedBy, madeBy};
-ghost use Rattle.lines.specs.Stores.{stores, lengthOf};
+use fields::Field;
 use model::Call;
 use model::Caller;
 use model::Operation;
 use model::Request;
 use model::Right;
-
-mod fields;
-
-// What a field spells: a number, a name as one number, a right as 0 or 1, or how many bytes of data.
-pub enum Field {
-    Is(u64),
-    Bad,
-}
 
 // The place of the first tab at or after `from`, or the line's length.
 fn field_end(line: &[u8], from: usize) -> usize
@@ -38,9 +30,9 @@ fn field_end(line: &[u8], from: usize) -> usize
     i
 }
 
-// The calls' names, each as one number. The tables are built once and lent to `read`: a constant that is indexed is built anew
-// at each use.
-pub fn call_names() -> [u64; 14]
+// The calls' names, each as one number. A table that is indexed in a loop is built before it: a constant that is indexed is
+// built anew at each use.
+fn call_names() -> [u64; 14]
     ensures { λ r. ⌜ r ≡ callNames ⌝ }
 {
     [
@@ -62,7 +54,7 @@ pub fn call_names() -> [u64; 14]
 }
 
 // The kinds of each call's fields, three bits a field, the first lowest: 1 a number, 2 a name, 3 a right, 4 data.
-pub fn call_shapes() -> [u64; 14]
+fn call_shapes() -> [u64; 14]
     ensures { λ r. ⌜ r ≡ callShapes ⌝ }
 {
     [
@@ -84,10 +76,10 @@ pub fn call_shapes() -> [u64; 14]
 }
 
 // The number of the call that a packed name names, or 14.
-fn call_place(names: &[u64; 14], word: u64) -> usize
-    requires { ⌜ now names ≡ callNames ⌝ }
+fn call_place(word: u64) -> usize
     ensures { λ r. ⌜ (r ≡ placeOf word) × (r ≤ 14) ⌝ }
 {
+    let names = call_names();
     let mut i: usize = 0;
     while i < 14 {
         if names[i] == word {
@@ -238,9 +230,8 @@ fn arguments(line: &[u8], place: usize, shape: u64, first: usize) -> Request
     make(place, values)
 }
 
-// One line, without its newline.
-pub fn read(line: &[u8], names: &[u64; 14], shapes: &[u64; 14]) -> Request
-    requires { ⌜ (now names ≡ callNames) × (now shapes ≡ callShapes) ⌝ }
+// What a line asks for.
+fn read(line: &[u8]) -> Request
     ensures { λ r. ⌜ r ≡ readLine (now (line .entry)) ⌝ }
 {
     if 600 < line.len() {
@@ -250,43 +241,12 @@ pub fn read(line: &[u8], names: &[u64; 14], shapes: &[u64; 14]) -> Request
     let Field::Is(word) = fields::name(&line[0..first]) else {
         return Request::NotRead;
     };
-    let place = call_place(names, word);
+    let place = call_place(word);
     if 14 <= place {
         return Request::NotRead;
     }
-    arguments(line, place, shapes[place], first)
-}
-
-pub fn read_line(line: &[u8]) -> Request
-    ensures { λ r. ⌜ r ≡ readLine (now (line .entry)) ⌝ }
-{
-    let names = call_names();
     let shapes = call_shapes();
-    read(line, &names, &shapes)
-}
-
-fn hex_value(b: u8) -> u8
-    requires { ⌜ hexDigit b ≡ true ⌝ }
-    ensures { λ r. ⌜ (r ≡ hexValue b) × (r ≤ 15) ⌝ }
-{
-    if b < 58 {
-        return b - 48;
-    }
-    b - 55
-}
-
-// The bytes that pairs of digits spell, over the first of `out`; how many they are.
-fn decode(f: &[u8], out: &mut [u8]) -> usize
-    requires { ⌜ (hexDigits (now f) ≡ true) × (length (now f) / 2 ≤ length (now out)) ⌝ }
-    ensures { λ r. ⌜ (r ≡ length (now (f .entry)) / 2) × (now (out .exit) ≡ over (now (out .entry)) 0 (hexBytes (now (f .entry)))) ⌝ }
-{
-    let n = f.len() / 2;
-    let mut i: usize = 0;
-    while i < n {
-        out[i] = hex_value(f[i + i]) * 16 + hex_value(f[i + i + 1]);
-        i += 1;
-    }
-    n
+    arguments(line, place, shapes[place], first)
 }
 
 // Where the next field starts.
@@ -301,14 +261,42 @@ fn next_field(line: &[u8], from: usize) -> usize
     tab
 }
 
-// The data of a line that asks to store, over the first bytes of `out`; how many they are.
-pub fn read_data(line: &[u8], out: &mut [u8]) -> usize
-    requires { ⌜ (stores (readLine (now line)) ≡ true) × (lengthOf (readLine (now line)) ≤ length (now out)) ⌝ }
-    ensures { λ r. ⌜ (r ≡ lengthOf (readLine (now (line .entry)))) × (now (out .exit) ≡ over (now (out .entry)) 0 (dataOf (now (line .entry)))) ⌝ }
+// The data of a line that asks to store, over the first bytes of `out`.
+fn read_data(line: &[u8], out: &mut [u8])
+    requires { ⌜ (stores (readLine (now line)) ≡ true) × (257 ≤ length (now out)) ⌝ }
+    ensures { λ _. ⌜ now (out .exit) ≡ over (now (out .entry)) 0 (dataOf (now (line .entry))) ⌝ }
 {
     let caller = next_field(line, 0);
     let register = next_field(line, caller);
     let address = next_field(line, register);
     let start = next_field(line, address);
-    decode(&line[start..], out)
+    fields::decode(&line[start..], out);
+}
+
+fn is_store(request: Request) -> bool
+    ensures { λ r. ⌜ r ≡ stores request ⌝ }
+{
+    match request {
+        Request::Call { call, .. } => {
+            let operation = call.operation;
+            match operation {
+                Operation::Store { .. } => true,
+                _ => false,
+            }
+        }
+        _ => false,
+    }
+}
+
+// One line, without its newline: what it asks for, and the data of a store over the first bytes of `bytes`.
+pub fn read_line(line: &[u8], bytes: &mut [u8; 257]) -> Request
+    ensures { λ r. ⌜ r ≡ readLine (now (line .entry)) ⌝ }
+    ensures { λ _. ⌜ now (bytes .exit) ≡ over (now (bytes .entry)) 0 (dataOf (now (line .entry))) ⌝ }
+{
+    let request = read(line);
+    if is_store(request) {
+        read_data(line, bytes);
+        return request;
+    }
+    request
 }

@@ -13,19 +13,22 @@ use Rattle.lines.proofs.call_place.Statement.{statement}
 use Rattle.lines.proofs.call_place.Tie as tie
 
 abbrev Inv-loop : tie.InvT-loop
-Inv-loop names word i₀ i = (i ≤ 14) × (placeOf word ≡ lowestFrom (λ k. eqb (getD names k 0) word) i (14 - i))
+Inv-loop word names i₀ i = (i ≤ 14) × (placeOf word ≡ lowestFrom (λ k. eqb (getD names k 0) word) i (14 - i))
 
 abbrev μ-loop : tie.MeasureT-loop
-μ-loop names word i₀ i = 14 - i
+μ-loop word names i₀ i = 14 - i
+
+call-names-requires : tie.Need-call-names-requires Inv-loop μ-loop
+call-names-requires c κs = search needs
 
 loop-holds : tie.Need-loop-holds Inv-loop μ-loop
-loop-holds c = (omega arith, place-from (c .args .names .now) (c .args .word) (c .pre))
+loop-holds c = (omega arith, place-from _ _ (c .call-names .ensures))
 
 mul-if1 : tie.Need-mul-if1 Inv-loop μ-loop
 mul-if1 c = search needs
 
-element-copy-out-if1 : tie.Need-element-copy-out-if1 Inv-loop μ-loop
-element-copy-out-if1 c = search needs
+array-read-if1 : tie.Need-array-read-if1 Inv-loop μ-loop
+array-read-if1 c = search needs
 
 returns : tie.Need-returns Inv-loop μ-loop
 returns c = search loops
@@ -48,9 +51,10 @@ call-place-spec =
     (tie.spec
     Inv-loop
     μ-loop
+    call-names-requires
     loop-holds
     mul-if1
-    element-copy-out-if1
+    array-read-if1
     returns
     add-i
     loop-less

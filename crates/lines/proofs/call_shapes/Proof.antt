@@ -1,6 +1,7 @@
 -- `lines::call_shapes` meets its contract.
 use Rattle.model.specs.Lines.{forms}
-use Rattle.lines.specs.Tables.{callShapes, shapeOf, kindNumber}
+use Rattle.fields.specs.Fields.{kindNumber}
+use Rattle.lines.specs.Tables.{callShapes, shapeOf}
 use borrow.Author.Needs.{needs}
 use Rattle.lines.proofs.call_shapes.Statement.{statement}
 use Rattle.lines.proofs.call_shapes.Tie as tie

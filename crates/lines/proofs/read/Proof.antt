@@ -38,11 +38,14 @@ call-place-requires c κs = search needs
 returns-3 : tie.Need-returns-3
 returns-3 c = search line-unknown
 
+call-shapes-requires : tie.Need-call-shapes-requires
+call-shapes-requires c κs = search needs
+
 mul-arguments : tie.Need-mul-arguments
 mul-arguments c = search needs
 
-element-copy-out-arguments : tie.Need-element-copy-out-arguments
-element-copy-out-arguments c = search needs
+array-read-arguments : tie.Need-array-read-arguments
+array-read-arguments c = search needs
 
 arguments-requires : tie.Need-arguments-requires
 arguments-requires c κs = (search needs, search shape-of, search needs)
@@ -65,7 +68,8 @@ read-spec =
     returns-2
     call-place-requires
     returns-3
+    call-shapes-requires
     mul-arguments
-    element-copy-out-arguments
+    array-read-arguments
     arguments-requires
     returns-4)

@@ -1,5 +1,5 @@
 -- `lines::read_data` meets its contract.
-use Rattle.lines.proofs.Stored.{data-digits, data-room, data-count, data-is}
+use Rattle.lines.proofs.Stored.{data-digits, data-room, data-is}
 use borrow.Author.Needs.{needs}
 use Rattle.lines.proofs.read_data.Statement.{statement}
 use Rattle.lines.proofs.read_data.Tie as tie
@@ -32,7 +32,7 @@ same-length : tie.Need-same-length
 same-length c = search needs
 
 returns : tie.Need-returns
-returns c = (search data-count, search data-is)
+returns c = search data-is
 
 pub read-data-spec : {M : Type 1} → statement M
 read-data-spec =

@@ -1,0 +1,56 @@
+-- `fields::all_hex` meets its contract.
+use Prim.Native.Nat.{_-_, _≤_}
+use mathlib.Core.Path.{_≡_, refl}
+use native.Mathlib.Omega.{arith}
+use lib.ListN.{length, drop}
+use Rattle.lists.proofs.Rules.{calls}
+use Rattle.model.specs.Lines.{hexDigits}
+use Rattle.fields.proofs.Turns.{hexes}
+use borrow.Author.Needs.{needs}
+use Rattle.fields.proofs.all_hex.Statement.{statement}
+use Rattle.fields.proofs.all_hex.Tie as tie
+
+abbrev Inv-loop : tie.InvT-loop
+Inv-loop f i₀ i = (i ≤ length f) × (hexDigits (drop i f) ≡ hexDigits f)
+
+abbrev μ-loop : tie.MeasureT-loop
+μ-loop f i₀ i = length f - i
+
+loop-holds : tie.Need-loop-holds Inv-loop μ-loop
+loop-holds c = (omega arith, refl)
+
+shared-slice-read-hex-digit : tie.Need-shared-slice-read-hex-digit Inv-loop μ-loop
+shared-slice-read-hex-digit c = search needs
+
+hex-digit-requires : tie.Need-hex-digit-requires Inv-loop μ-loop
+hex-digit-requires c κs = search needs
+
+returns : tie.Need-returns Inv-loop μ-loop
+returns c = search (hexes, calls, arith)
+
+add-i : tie.Need-add-i Inv-loop μ-loop
+add-i c = search needs
+
+loop-less : tie.Need-loop-less Inv-loop μ-loop
+loop-less c = search needs
+
+loop-again : tie.Need-loop-again Inv-loop μ-loop
+loop-again c = search (hexes, calls, arith)
+
+returns-2 : tie.Need-returns-2 Inv-loop μ-loop
+returns-2 c = search (hexes, calls, arith)
+
+pub all-hex-spec : {M : Type 1} → statement M
+all-hex-spec =
+    tie.close
+    (tie.spec
+    Inv-loop
+    μ-loop
+    loop-holds
+    shared-slice-read-hex-digit
+    hex-digit-requires
+    returns
+    add-i
+    loop-less
+    loop-again
+    returns-2)

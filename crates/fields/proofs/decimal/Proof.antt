@@ -1,0 +1,70 @@
+-- `fields::decimal` meets its contract.
+use Rattle.fields.proofs.Turns.{Decimal, decimal-start, decimal-turn, decimal-scaled, decimal-fits, decimal-low, decimal-high, decimal-good, decimal-is, decimal-large, decimal-within}
+use Prim.Native.Nat.{_-_}
+use lib.ListN.{length}
+use Rattle.lists.proofs.Rules.{tests}
+use Rattle.fields.proofs.Spelling.{is-field, bad-field}
+use borrow.Author.Needs.{needs}
+use Rattle.fields.proofs.decimal.Statement.{statement}
+use Rattle.fields.proofs.decimal.Tie as tie
+
+abbrev Inv-loop : tie.InvT-loop
+Inv-loop f v₀ i₀ v i = Decimal f v i
+
+abbrev μ-loop : tie.MeasureT-loop
+μ-loop f v₀ i₀ v i = length f - i
+
+loop-holds : tie.Need-loop-holds Inv-loop μ-loop
+loop-holds c = search decimal-start
+
+shared-slice-read-b : tie.Need-shared-slice-read-b Inv-loop μ-loop
+shared-slice-read-b c = search needs
+
+returns : tie.Need-returns Inv-loop μ-loop
+returns c = search (bad-field, tests, decimal-low)
+
+returns-2 : tie.Need-returns-2 Inv-loop μ-loop
+returns-2 c = search (bad-field, tests, decimal-high)
+
+mul-v : tie.Need-mul-v Inv-loop μ-loop
+mul-v c = search decimal-scaled
+
+wide-requires : tie.Need-wide-requires Inv-loop μ-loop
+wide-requires c κs = search needs
+
+add-v : tie.Need-add-v Inv-loop μ-loop
+add-v c = search decimal-fits
+
+add-i : tie.Need-add-i Inv-loop μ-loop
+add-i c = search needs
+
+loop-less : tie.Need-loop-less Inv-loop μ-loop
+loop-less c = search needs
+
+loop-again : tie.Need-loop-again Inv-loop μ-loop
+loop-again c = search decimal-turn
+
+returns-3 : tie.Need-returns-3 Inv-loop μ-loop
+returns-3 c = search (bad-field, tests, decimal-good, decimal-large)
+
+returns-4 : tie.Need-returns-4 Inv-loop μ-loop
+returns-4 c = search (is-field, tests, decimal-good, decimal-within, decimal-is)
+
+pub decimal-spec : {M : Type 1} → statement M
+decimal-spec =
+    tie.close
+    (tie.spec
+    Inv-loop
+    μ-loop
+    loop-holds
+    shared-slice-read-b
+    returns
+    returns-2
+    mul-v
+    wide-requires
+    add-v
+    add-i
+    loop-less
+    loop-again
+    returns-3
+    returns-4)
