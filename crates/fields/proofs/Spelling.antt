@@ -1,5 +1,5 @@
 -- What a field spells, from what the code has tested of it. Assumes nothing.
-use Prim.Native.Nat.{ℕ, _+_, _-_, _*_, _%_, _^_, _≤_, _<_}
+use Prim.Native.Nat.{ℕ, _+_, _-_, _*_, _/_, _%_, _^_, _≤_, _<_}
 use mathlib.Core.Bool.{Bool, true, false, not}
 use mathlib.Core.List.{List, [], _∷_}
 use mathlib.Core.Logic.{_⊎_, inl, inr, ⊎-elim}
@@ -8,14 +8,14 @@ use native.Mathlib.Nat.{pow-suc, pow-le-pow-right, mul-le-mul-right}
 use native.Mathlib.Omega.{arith}
 use lib.Dec.{eqb, leb}
 use lib.ListN.{length, getD}
-use borrow.Author.Tests.{le-leb, leb-true, eq-eqb, ne-eqb, eqb-false}
+use borrow.Author.Tests.{le-leb, lt-leb, leb-true, eq-eqb, ne-eqb, eqb-false}
 use Rattle.lists.specs.Choice.{choose, both}
-use Rattle.lists.proofs.Choice.{both-yes, both-left, both-right, both-intro, either-left, either-right, either-none, either-to, not-so, not-to, yes!, no! }
+use Rattle.lists.proofs.Choice.{both-yes, both-no, both-not, both-left, both-right, both-intro, either-left, either-right, either-none, either-to, not-so, not-to, yes!, no! }
 use Rattle.fields.specs.declared.Field.{Field}
 use Rattle.fields.specs.declared.Field.the-variants.{Is, Bad}
 use Rattle.fields.specs.Fields.{asField}
 use Rattle.model.specs.Names.{digit}
-use Rattle.model.specs.Lines.{Spelt, is, bad, spelt, plain, digits, decimalFrom, rightField, hexDigit, hexValue}
+use Rattle.model.specs.Lines.{Spelt, is, bad, spelt, plain, digits, decimalFrom, numberField, noBlank, packedName, nameField, rightField, hexDigit, hexValue, hexDigits, hexField}
 
 -- a field that passes its test, and one that doesn't
 pub is-field : (t : Bool) (n v : ℕ) → t ≡ true → v ≡ n → Is v ≡ asField (spelt t n)
@@ -42,20 +42,13 @@ unfolding spelt
 spelt-is true m n e = (refl, cc)
 spelt-is false m n e = let z : _≡_ {A = ℕ} 0 1 = cc in absurd (omega arith)
 
--- a test that is passed may be left out
-pub test-done : (r : Field) (t b : Bool) (n : ℕ) → t ≡ true → r ≡ asField (spelt b n) → r ≡ asField (spelt (both t b) n)
-test-done r t b n e p = p ∙ ap (λ x. asField (spelt x n)) (sym (both-yes b e))
-
-pub tests-done : (r : Field) (t b x : Bool) (n : ℕ) → t ≡ true → r ≡ asField (spelt (both b x) n) → r ≡ asField (spelt (both (both t b) x) n)
-tests-done r t b x n e p = p ∙ ap (λ y. asField (spelt (both y x) n)) (sym (both-yes b e))
-
 -- leading zeros
-pub plain-none : (f : List ℕ) → length f ≡ 0 → plain f ≡ false
+plain-none : (f : List ℕ) → length f ≡ 0 → plain f ≡ false
 unfolding plain
 plain-none [] e = refl
 plain-none (b ∷ f) e = absurd (omega arith)
 
-pub plain-one : (f : List ℕ) → (length f ≡ 0 → ⊥) → length f ≤ 1 → plain f ≡ true
+plain-one : (f : List ℕ) → (length f ≡ 0 → ⊥) → length f ≤ 1 → plain f ≡ true
 unfolding plain
 plain-one [] n h = absurd (n refl)
 plain-one (b ∷ []) n h = refl
@@ -67,10 +60,10 @@ plain-is [] h = absurd (omega arith)
 plain-is (b ∷ []) h = absurd (omega arith)
 plain-is (b ∷ x ∷ f) h = refl
 
-pub plain-zero : (f : List ℕ) → 1 < length f → getD f 0 0 ≡ 48 → plain f ≡ false
+plain-zero : (f : List ℕ) → 1 < length f → getD f 0 0 ≡ 48 → plain f ≡ false
 plain-zero f h e = plain-is f h ∙ ap not (eq-eqb (getD f 0 0) 48 e)
 
-pub plain-more : (f : List ℕ) → 1 < length f → (getD f 0 0 ≡ 48 → ⊥) → plain f ≡ true
+plain-more : (f : List ℕ) → 1 < length f → (getD f 0 0 ≡ 48 → ⊥) → plain f ≡ true
 plain-more f h n = plain-is f h ∙ ap not (ne-eqb (getD f 0 0) 48 n)
 
 -- n digits after v make at least v times 10 ^ n
@@ -92,12 +85,51 @@ long-large (b ∷ f) h y z =
     let q : 1 * 10 ^ length f ≤ (0 * 10 + (b - 48)) * 10 ^ length f = mul-le-mul-right (10 ^ length f) (omega arith) in
     omega (arith, grows (0 * 10 + (b - 48)) f)
 
-pub long-number : (f : List ℕ) → 10 < length f → both (both (plain f) (digits f)) (leb (decimalFrom 0 f) 4294967295) ≡ false
+long-number : (f : List ℕ) → 10 < length f → both (both (plain f) (digits f)) (leb (decimalFrom 0 f) 4294967295) ≡ false
 long-number f h =
     not-so _ (λ e.
     let pd = both-left _ _ e in
     let l = leb-true (decimalFrom 0 f) 4294967295 (both-right (both (plain f) (digits f)) _ e) in
     omega (arith, long-large f h (both-left (plain f) (digits f) pd) (both-right (plain f) (digits f) pd)))
+
+-- a number, by what the code tests of it
+pub number-none : (f : List ℕ) → length f ≡ 0 → Bad ≡ asField (numberField f)
+unfolding numberField
+number-none f e = bad-field _ _ (both-no _ (both-no _ (plain-none f e)))
+
+pub number-long : (f : List ℕ) → 10 < length f → Bad ≡ asField (numberField f)
+unfolding numberField
+number-long f h = bad-field _ _ (long-number f h)
+
+pub number-zero : (f : List ℕ) → 1 < length f → getD f 0 0 ≡ 48 → Bad ≡ asField (numberField f)
+unfolding numberField
+number-zero f h e = bad-field _ _ (both-no _ (both-no _ (plain-zero f h e)))
+
+module _ (f : List ℕ) (r : Field) (p : r ≡ asField (spelt (both (digits f) (leb (decimalFrom 0 f) 4294967295)) (decimalFrom 0 f))) where
+  number-plain : plain f ≡ true → r ≡ asField (numberField f)
+  unfolding numberField
+  number-plain e =
+      p ∙ ap (λ y. asField (spelt (both y (leb (decimalFrom 0 f) 4294967295)) (decimalFrom 0 f))) (sym (both-yes (digits f) e))
+
+  pub number-more : 1 < length f → (getD f 0 0 ≡ 48 → ⊥) → r ≡ asField (numberField f)
+  number-more h n = number-plain (plain-more f h n)
+
+  pub number-one : (length f ≡ 0 → ⊥) → length f ≤ 1 → r ≡ asField (numberField f)
+  number-one n h = number-plain (plain-one f n h)
+
+-- a name
+pub name-none : (f : List ℕ) → length f ≡ 0 → Bad ≡ asField (nameField f)
+unfolding nameField
+name-none f e = bad-field _ _ (both-no _ (both-no _ (lt-leb 1 (length f) (omega arith))))
+
+pub name-long : (f : List ℕ) → 8 < length f → Bad ≡ asField (nameField f)
+unfolding nameField
+name-long f h = bad-field _ _ (both-no _ (both-not _ _ (lt-leb (length f) 8 h)))
+
+pub name-letters : (f : List ℕ) (r : Field) → (length f ≡ 0 → ⊥) → length f ≤ 8 → r ≡ asField (spelt (noBlank f) (packedName f)) → r ≡ asField (nameField f)
+unfolding nameField
+name-letters f r n h p =
+    p ∙ ap (λ y. asField (spelt y (packedName f))) (sym (both-yes (noBlank f) (both-intro _ _ (le-leb 1 (length f) (omega arith)) (le-leb (length f) 8 h))))
 
 -- rights
 right-is : (f : List ℕ) → length f ≡ 1 → rightField f ≡ choose (eqb (getD f 0 0) 82) (is 0) (choose (eqb (getD f 0 0) 87) (is 1) bad)
@@ -127,12 +159,25 @@ right-long (b ∷ []) n = absurd (n refl)
 right-long (b ∷ x ∷ f) n = refl
 
 -- pairs of hexadecimal digits
-pub odd-length : (n : ℕ) → n % 2 ≡ 1 → eqb (n % 2) 0 ≡ false
-odd-length n e = ne-eqb (n % 2) 0 (λ z. omega arith)
+pub hex-odd : (f : List ℕ) → length f % 2 ≡ 1 → Bad ≡ asField (hexField f)
+unfolding hexField
+hex-odd f e = bad-field _ _ (both-no _ (both-no _ (ne-eqb (length f % 2) 0 (λ z. omega arith))))
 
-pub even-length : (n : ℕ) → (n % 2 ≡ 1 → ⊥) → eqb (n % 2) 0 ≡ true
-even-length n h = eq-eqb (n % 2) 0 (omega arith)
+pub hex-long : (f : List ℕ) → 514 < length f → Bad ≡ asField (hexField f)
+unfolding hexField
+hex-long f h = bad-field _ _ (both-no _ (both-not _ _ (lt-leb (length f) 514 h)))
 
+module _ (f : List ℕ) (b : Bool) (t : b ≡ hexDigits f) where
+  pub hex-other : b ≡ false → Bad ≡ asField (hexField f)
+  unfolding hexField
+  hex-other e = bad-field _ _ (both-not _ _ (sym t ∙ e))
+
+  pub hex-pairs : (length f % 2 ≡ 1 → ⊥) → length f ≤ 514 → b ≡ true → Is (length f / 2) ≡ asField (hexField f)
+  unfolding hexField
+  hex-pairs n h e =
+      is-field _ _ _ (both-intro _ _ (both-intro _ _ (eq-eqb (length f % 2) 0 (omega arith)) (le-leb (length f) 514 h)) (sym t ∙ e)) refl
+
+-- one of them
 pub hex-decimal : (b : ℕ) → 48 ≤ b → b ≤ 57 → true ≡ hexDigit b
 unfolding hexDigit
 hex-decimal b l h = sym (either-left (digit b) _ (both-intro _ _ (le-leb 48 b l) (le-leb b 57 h)))

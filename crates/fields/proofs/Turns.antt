@@ -15,8 +15,11 @@ use mir.Val.{Fits}
 use borrow.Author.Tests.{le-leb, lt-leb, eq-eqb, ne-eqb}
 use Rattle.lists.specs.Choice.{both}
 use Rattle.lists.proofs.Choice.{both-yes, both-no, both-not, both-intro, not-of}
+use Rattle.fields.specs.declared.Field.the-variants.{Is, Bad}
+use Rattle.fields.specs.Fields.{asField}
+use Rattle.fields.proofs.Spelling.{is-field, bad-field}
 use Rattle.model.specs.Names.{digit}
-use Rattle.model.specs.Lines.{digits, decimalFrom, noBlank, packed, packedName, hexDigit, hexDigits}
+use Rattle.model.specs.Lines.{spelt, digits, decimalFrom, noBlank, packed, packedName, hexDigit, hexDigits}
 
 pub drop-turn : (l : List ℕ) (i : ℕ) → i < length l → drop i l ≡ getD l i 0 ∷ drop (i + 1) l
 drop-turn l i h = rw (add-one i, drop-cons l i 0)
@@ -107,27 +110,34 @@ decimal-scaled f v i s h l = record { fits = omega (arith, within 10 v 0 i 10 (s
 pub decimal-fits : (f : List ℕ) (v i w : ℕ) → Decimal f v i → i < length f → length f ≤ 10 → w ≡ getD f i 0 - 48 → getD f i 0 ≤ 57 → Fits w64 (v * 10 + w)
 decimal-fits f v i w s h l e b = record { fits = omega (arith, within 10 v w i 10 (s .small) (omega arith) (omega arith)) }
 
-pub decimal-low : (f : List ℕ) (v i : ℕ) → Decimal f v i → i < length f → getD f i 0 < 48 → digits f ≡ false
-unfolding digits
-decimal-low f v i s h a = sym (all-stop digit digits refl (λ x xs. refl) f i (s .rest) h (both-no _ (lt-leb 48 (getD f i 0) a)))
-
-pub decimal-high : (f : List ℕ) (v i : ℕ) → Decimal f v i → i < length f → 57 < getD f i 0 → digits f ≡ false
-unfolding digits
-decimal-high f v i s h a = sym (all-stop digit digits refl (λ x xs. refl) f i (s .rest) h (both-not _ _ (lt-leb (getD f i 0) 57 a)))
-
-pub decimal-good : (f : List ℕ) (v i : ℕ) → Decimal f v i → length f ≤ i → digits f ≡ true
+decimal-good : (f : List ℕ) (v i : ℕ) → Decimal f v i → length f ≤ i → digits f ≡ true
 unfolding digits
 decimal-good f v i s h = sym (all-end digit digits refl (λ x xs. refl) f i (s .rest) h)
 
-pub decimal-is : (f : List ℕ) (v i : ℕ) → Decimal f v i → length f ≤ i → v ≡ decimalFrom 0 f
+decimal-is : (f : List ℕ) (v i : ℕ) → Decimal f v i → length f ≤ i → v ≡ decimalFrom 0 f
 unfolding decimalFrom
 decimal-is = sum-is 10 digits decimalFrom (λ b. b - 48) (λ v b bs. refl) (λ v. refl)
 
-pub decimal-large : (f : List ℕ) (v i : ℕ) → Decimal f v i → length f ≤ i → 4294967295 < v → leb (decimalFrom 0 f) 4294967295 ≡ false
-decimal-large f v i s h l = lt-leb (decimalFrom 0 f) 4294967295 (omega (arith, decimal-is f v i s h))
+-- a byte that is no digit
+module _ (f : List ℕ) (v i : ℕ) (s : Decimal f v i) (h : i < length f) where
+  decimal-bad : digit (getD f i 0) ≡ false → Bad ≡ asField (spelt (both (digits f) (leb (decimalFrom 0 f) 4294967295)) (decimalFrom 0 f))
+  unfolding digits
+  decimal-bad n = bad-field _ _ (both-no _ (sym (all-stop digit digits refl (λ x xs. refl) f i (s .rest) h n)))
 
-pub decimal-within : (f : List ℕ) (v i : ℕ) → Decimal f v i → length f ≤ i → v ≤ 4294967295 → leb (decimalFrom 0 f) 4294967295 ≡ true
-decimal-within f v i s h l = le-leb (decimalFrom 0 f) 4294967295 (omega (arith, decimal-is f v i s h))
+  pub decimal-low : getD f i 0 < 48 → Bad ≡ asField (spelt (both (digits f) (leb (decimalFrom 0 f) 4294967295)) (decimalFrom 0 f))
+  decimal-low a = decimal-bad (both-no _ (lt-leb 48 (getD f i 0) a))
+
+  pub decimal-high : 57 < getD f i 0 → Bad ≡ asField (spelt (both (digits f) (leb (decimalFrom 0 f) 4294967295)) (decimalFrom 0 f))
+  decimal-high a = decimal-bad (both-not _ _ (lt-leb (getD f i 0) 57 a))
+
+-- all are read
+module _ (f : List ℕ) (v i : ℕ) (s : Decimal f v i) (h : length f ≤ i) where
+  pub decimal-large : 4294967295 < v → Bad ≡ asField (spelt (both (digits f) (leb (decimalFrom 0 f) 4294967295)) (decimalFrom 0 f))
+  decimal-large l = bad-field _ _ (both-not _ _ (lt-leb (decimalFrom 0 f) 4294967295 (omega (arith, decimal-is f v i s h))))
+
+  pub decimal-within : v ≤ 4294967295 → Is v ≡ asField (spelt (both (digits f) (leb (decimalFrom 0 f) 4294967295)) (decimalFrom 0 f))
+  decimal-within l =
+      is-field _ _ v (both-intro _ _ (decimal-good f v i s h) (le-leb (decimalFrom 0 f) 4294967295 (omega (arith, decimal-is f v i s h)))) (decimal-is f v i s h)
 
 -- names
 packed-more : (v : ℕ) (f g : List ℕ) → packed v (f ++ g) ≡ packed (packed v f) g

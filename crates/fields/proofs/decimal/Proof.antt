@@ -1,9 +1,7 @@
 -- `fields::decimal` meets its contract.
-use Rattle.fields.proofs.Turns.{Decimal, decimal-start, decimal-turn, decimal-scaled, decimal-fits, decimal-low, decimal-high, decimal-good, decimal-is, decimal-large, decimal-within}
 use Prim.Native.Nat.{_-_}
 use lib.ListN.{length}
-use Rattle.lists.proofs.Rules.{tests}
-use Rattle.fields.proofs.Spelling.{is-field, bad-field}
+use Rattle.fields.proofs.Turns.{Decimal, decimal-start, decimal-turn, decimal-scaled, decimal-fits, decimal-low, decimal-high, decimal-large, decimal-within}
 use borrow.Author.Needs.{needs}
 use Rattle.fields.proofs.decimal.Statement.{statement}
 use Rattle.fields.proofs.decimal.Tie as tie
@@ -21,10 +19,10 @@ shared-slice-read-b : tie.Need-shared-slice-read-b Inv-loop μ-loop
 shared-slice-read-b c = search needs
 
 returns : tie.Need-returns Inv-loop μ-loop
-returns c = search (bad-field, tests, decimal-low)
+returns c = search decimal-low
 
 returns-2 : tie.Need-returns-2 Inv-loop μ-loop
-returns-2 c = search (bad-field, tests, decimal-high)
+returns-2 c = search decimal-high
 
 mul-v : tie.Need-mul-v Inv-loop μ-loop
 mul-v c = search decimal-scaled
@@ -45,10 +43,10 @@ loop-again : tie.Need-loop-again Inv-loop μ-loop
 loop-again c = search decimal-turn
 
 returns-3 : tie.Need-returns-3 Inv-loop μ-loop
-returns-3 c = search (bad-field, tests, decimal-good, decimal-large)
+returns-3 c = search decimal-large
 
 returns-4 : tie.Need-returns-4 Inv-loop μ-loop
-returns-4 c = search (is-field, tests, decimal-good, decimal-within, decimal-is)
+returns-4 c = search decimal-within
 
 pub decimal-spec : {M : Type 1} → statement M
 decimal-spec =

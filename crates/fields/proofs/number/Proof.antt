@@ -1,39 +1,32 @@
 -- `fields::number` meets its contract.
-use Rattle.lists.proofs.Rules.{tests}
-use Rattle.model.specs.Lines.{numberField}
-use Rattle.fields.proofs.Spelling.{bad-field, tests-done, plain-none, plain-one, plain-zero, plain-more, long-number}
+use Rattle.fields.proofs.Spelling.{number-none, number-long, number-zero, number-more, number-one}
 use borrow.Author.Needs.{needs}
 use Rattle.fields.proofs.number.Statement.{statement}
 use Rattle.fields.proofs.number.Tie as tie
 
 returns : tie.Need-returns
-unfolding numberField
-returns c = search (bad-field, tests, plain-none)
+returns c = search number-none
 
 returns-2 : tie.Need-returns-2
-unfolding numberField
-returns-2 c = search (bad-field, long-number)
+returns-2 c = search number-long
 
 shared-slice-read-if4 : tie.Need-shared-slice-read-if4
 shared-slice-read-if4 c = search needs
 
 returns-3 : tie.Need-returns-3
-unfolding numberField
-returns-3 c = search (bad-field, tests, plain-zero)
+returns-3 c = search number-zero
 
 decimal-requires : tie.Need-decimal-requires
 decimal-requires c κs = search needs
 
 returns-4 : tie.Need-returns-4
-unfolding numberField
-returns-4 c = search (tests-done, plain-more)
+returns-4 c = search number-more
 
 decimal-requires-2 : tie.Need-decimal-requires-2
 decimal-requires-2 c κs = search needs
 
 returns-5 : tie.Need-returns-5
-unfolding numberField
-returns-5 c = search (tests-done, plain-one)
+returns-5 c = search number-one
 
 pub number-spec : {M : Type 1} → statement M
 number-spec =
