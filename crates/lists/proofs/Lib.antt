@@ -5,4 +5,5 @@ pub mod Lowest
 pub mod Counts
 pub mod Maps
 pub mod Bytes
+pub mod Parts
 pub mod Rules

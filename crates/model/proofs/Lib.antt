@@ -29,3 +29,4 @@ pub mod Guards
 pub mod Effects
 pub mod SpaceEffects
 pub mod TransferEffects
+pub mod Steps

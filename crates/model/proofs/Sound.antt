@@ -8,7 +8,7 @@ use lib.ListN.{length}
 use borrow.Author.Tests.{eqb-true, eqb-false, eq-eqb, leb-true}
 use Rattle.lists.specs.Choice.{choose, both}
 use Rattle.lists.proofs.Choice.{both-left, both-right, both-intro, not-to}
-use Rattle.lists.proofs.Bytes.{length-put}
+use Rattle.lists.proofs.Bytes.{length-put, length-get}
 use Rattle.model.specs.declared.Call.{Call}
 use Rattle.model.specs.declared.Caller.{Caller}
 use Rattle.model.specs.declared.Operation.{Operation}
@@ -22,7 +22,7 @@ use Rattle.model.specs.Granted.{Performed, AllFit, Granted}
 use Rattle.model.specs.Searches.{enrolled}
 use Rattle.model.specs.Sound.{Sound, IsGuest}
 use Rattle.model.specs.SoundTest.{sound}
-use Rattle.model.specs.Step.{Machine, Ready, Issue, decision, step, scratchAfter}
+use Rattle.model.specs.Step.{Machine, Ready, Issue, decision, step, scratchAfter, bufferAfter}
 use Rattle.model.specs.Tables.{guestAt}
 use Rattle.model.specs.Verdict.{row, Verdict, refused, granted}
 use Rattle.model.proofs.Clearing.{length-clearFrames}
@@ -85,6 +85,13 @@ length-scratchAfter s none m b = refl
 length-scratchAfter s (clear fs) m b = length-clearFrames fs m
 length-scratchAfter s (fetch u a) m b = refl
 length-scratchAfter s (store u a) m b = length-put (placeOf (layout s) u) a b m
+
+pub length-bufferAfter : (s : State) (e : Effect) (m b : List ℕ) → length (bufferAfter s e m b) ≡ length b
+unfolding bufferAfter
+length-bufferAfter s none m b = refl
+length-bufferAfter s (clear fs) m b = refl
+length-bufferAfter s (fetch u a) m b = length-get (placeOf (layout s) u) a (length b) m
+length-bufferAfter s (store u a) m b = refl
 
 -- over a list every call finds what the one before it left in order
 pub ready-kept : (m : Machine) (i : Issue) → Ready m → Ready (step m i .machine)

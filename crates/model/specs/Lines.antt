@@ -214,6 +214,11 @@ stores (Frames f) = false
 stores (Call k n) = isStore (k .operation)
 stores NotRead = false
 
+unfoldable pub lengthOf : Request → ℕ
+lengthOf (Frames f) = 0
+lengthOf (Call k n) = n
+lengthOf NotRead = 0
+
 -- the data of a line: those of a STORE that was read, its last field; of any other line none
 unfoldable pub dataOf : List ℕ → List ℕ
 dataOf l = choose (stores (readLine l)) (hexBytes (getD (fields l) 4 [])) []
