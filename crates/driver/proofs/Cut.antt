@@ -1,8 +1,8 @@
 -- Of a line longer than 600 bytes no byte matters: it is not read. So 601 bytes of a line are all that need be kept. Assumes
 -- nothing.
-use Prim.Native.Nat.{ℕ, zero, suc, _≤_, _<_}
-use mathlib.Core.List.{List, [], _∷_, _++_}
-use mathlib.Core.Path.{_≡_, refl, sym, ap, _∙_}
+use Prim.Native.Nat.{ℕ, _≤_, _<_}
+use mathlib.Core.List.{List, []}
+use mathlib.Core.Path.{_≡_, sym, _∙_}
 use native.Mathlib.Decide.{decLe}
 use native.Mathlib.Omega.{arith}
 use lib.ListN.{length, take}
@@ -18,7 +18,7 @@ unfolding readLine
 long-line l h = no! _ NotRead (lt-leb (length l) 600 h)
 
 -- what becomes of a long line
-long-turn : (s : Session) (l : List ℕ) → 600 < length l → lineTurn s l ≡ requestTurn s [] NotRead
+long-turn : (s : Session) (l : List ℕ) → 600 < length l → lineTurn s l ≡ requestTurn s NotRead []
 unfolding requestTurn
 long-turn s l h = rw (long-line l h)
 
@@ -30,9 +30,3 @@ turn-cut s l = go (decLe (length l) 601)
     go (no h) =
         let n : length (take 601 l) ≡ 601 = length-take-le 601 l (omega arith) in
         long-turn s (take 601 l) (omega arith) ∙ sym (long-turn s l (omega arith))
-
--- what is kept of a line, however it comes
-pub keep : (n : ℕ) (x y : List ℕ) → take n (take n x ++ y) ≡ take n (x ++ y)
-keep zero x y = refl
-keep (suc n) [] y = refl
-keep (suc n) (a ∷ x) y = ap (λ (l : List ℕ). a ∷ l) (keep n x y)

@@ -1,54 +1,51 @@
 -- The end of the input, in its three cases. Assumes nothing.
 use Prim.Native.Nat.{ℕ, _≤_, _<_}
 use mathlib.Core.Bool.{true, false}
-use mathlib.Core.List.{List, []}
-use mathlib.Core.Path.{_≡_, subst, sym, ap, _∙_}
+use mathlib.Core.List.{List, [], _∷_, append-nil}
+use mathlib.Core.Path.{_≡_, refl, sym, ap, _∙_}
 use native.Mathlib.Omega.{arith}
 use lib.Dec.{eqb}
-use lib.ListN.{length, take}
-use lib.Seq.{length-take-le}
+use lib.ListN.{length, take, length-take}
 use borrow.Author.Tests.{eq-eqb, ne-eqb}
 use Rattle.lists.proofs.Choice.{yes!, no! }
 use Rattle.replies.specs.Wrote.{Wrote}
 use Rattle.replies.proofs.Writing.{wrote-none}
 use Rattle.driver.specs.declared.Session.{Session}
-use Rattle.driver.specs.Feed.{Feed, ended, replyTo, lastWords}
+use Rattle.driver.specs.Feed.{Feed, ended, replyTo, next, says, after, said, lastWords}
 use Rattle.driver.specs.Fed.{feedOf, FedTo, closing, FinishedTo, finished, full}
-
--- the session with k bytes held, where that is as many as it says, or more are not there
-abbrev within : Session → ℕ → Session
-within s k = record { begun = s .begun; line = s .line; have = k; state = s .state }
-
-within-same : (s : Session) (h m : List ℕ) (k : ℕ) → take k h ≡ take (s .have) h → feedOf (within s k) h m ≡ feedOf s h m
-within-same s h m k e = ap (λ (l : List ℕ). record { session = record { begun = s .begun; tables = s .state; scratch = m }; line = s .line; held = l }) e
-
-pub fed-within : (s : Session) (h m input out out₁ : List ℕ) (k i a : ℕ) (f : Feed) → take k h ≡ take (s .have) h
-    → FedTo (feedOf (within s k) h m) input out i a f out₁ → FedTo (feedOf s h m) input out i a f out₁
-fed-within s h m input out out₁ k i a f e g = subst (λ (x : Feed). FedTo x input out i a f out₁) (within-same s h m k e) g
+use Rattle.driver.proofs.Bounds.{fed-some}
 
 -- no room for a reply
 pub finish-full : (s : Session) (h m out : List ℕ) → length out < 600 → FinishedTo (feedOf s h m) m out false 0 m out
 finish-full s h m out l = full l
 
 -- no byte is held
-pub finish-none : (s : Session) (h m out : List ℕ) (k : ℕ) → 600 ≤ length out → take k h ≡ take (s .have) h → k ≡ 0
-    → FinishedTo (feedOf s h m) m out true 0 m out
+pub finish-none : (s : Session) (h m out : List ℕ) → 600 ≤ length out → s .have ≡ 0 → FinishedTo (feedOf s h m) m out true 0 m out
 unfolding lastWords closing
-finish-none s h m out k l e z =
+finish-none s h m out l z =
     let f = feedOf s h m in
-    let none : eqb (length (f .held)) 0 ≡ true = eq-eqb (length (f .held)) 0 (ap length (sym e) ∙ ap (λ j. length (take j h)) z) in
+    let none : eqb (length (f .held)) 0 ≡ true = eq-eqb (length (f .held)) 0 (ap (λ j. length (take j h)) z) in
     let words : Wrote out 0 (lastWords f) out 0 = rw (yes! [] (replyTo f) none) (wrote-none out 0 (omega arith)) in
     finished l words (ap (λ (g : Feed). g .session .scratch) (sym (yes! f (ended f) none)))
 
--- a line is held, and is answered
-pub finish-line : (s : Session) (h m m₁ out out₁ : List ℕ) (k r : ℕ) → length h ≡ 601 → 600 ≤ length out → take k h ≡ take (s .have) h → (k ≡ 0 → ⊥) → k ≤ 601
-    → Wrote out 0 (replyTo (feedOf (within s k) h m)) out₁ r → m₁ ≡ ended (feedOf (within s k) h m) .session .scratch
-    → FinishedTo (feedOf s h m) m out true r m₁ out₁
+-- a newline ends the line
+newline-after : (f : Feed) → after f (10 ∷ []) ≡ ended f
+unfolding after next
+newline-after f = yes! (ended f) _ (eq-eqb 10 10 refl)
+
+newline-said : (f : Feed) → said f (10 ∷ []) ≡ replyTo f
+unfolding said says
+newline-said f = append-nil _ ∙ yes! (replyTo f) [] (eq-eqb 10 10 refl)
+
+-- a line is held: a newline has been fed, and was taken, since there is room
+pub finish-line : (s s₁ : Session) (h h₁ m m₁ out out₁ : List ℕ) (used written : ℕ) → length h ≡ 601 → 600 ≤ length out → (s .have ≡ 0 → ⊥)
+    → FedTo (feedOf s h m) (10 ∷ []) out used written (feedOf s₁ h₁ m₁) out₁ → FinishedTo (feedOf s h m) m out true written m₁ out₁
 unfolding lastWords closing
-finish-line s h m m₁ out out₁ k r n l e z b w c =
+finish-line s s₁ h h₁ m m₁ out out₁ used written n l z t =
     let f = feedOf s h m in
-    let same = within-same s h m k e in
-    let long : length (f .held) ≡ k = ap length (sym e) ∙ length-take-le k h (omega arith) in
-    let some : eqb (length (f .held)) 0 ≡ false = ne-eqb (length (f .held)) 0 (λ (q : length (f .held) ≡ 0). z (omega arith)) in
-    let words : Wrote out 0 (lastWords f) out₁ r = rw (no! [] (replyTo f) some) (subst (λ (g : Feed). Wrote out 0 (replyTo g) out₁ r) same w) in
-    finished l words (c ∙ ap (λ (g : Feed). ended g .session .scratch) same ∙ ap (λ (g : Feed). g .session .scratch) (sym (no! f (ended f) some)))
+    let some : eqb (length (f .held)) 0 ≡ false = ne-eqb (length (f .held)) 0 (λ (q : length (f .held) ≡ 0). z (omega (arith, length-take (s .have) h))) in
+    let one : used ≡ 1 = omega (arith, fed-some f (10 ∷ []) out used written (feedOf s₁ h₁ m₁) out₁ t l (omega arith), t .going .within) in
+    let words : Wrote out 0 (said f (10 ∷ [])) out₁ written = rw one at (t .going .text) in
+    let stands : feedOf s₁ h₁ m₁ ≡ after f (10 ∷ []) = rw one at (t .going .feed) in
+    finished l (rw (no! [] (replyTo f) some) (rw (newline-said f) at words))
+    (ap (λ (g : Feed). g .session .scratch) (stands ∙ newline-after f ∙ sym (no! f (ended f) some)))

@@ -10,13 +10,13 @@ use lib.ListN.{length, getD, take, drop, length-take}
 use lib.Seq.{take-add, take-all, take-suc, getD-take, getD-drop}
 use borrow.Author.Tests.{eq-eqb, eqb-true}
 use Rattle.lists.proofs.Choice.{yes!, no! }
+use Rattle.lists.proofs.Parts.{take-kept}
 use Rattle.lists.proofs.Places.{lowest-from-holds, lowest-from-least}
 use Rattle.model.specs.Session.{Session, lineTurn, lineText, nextLine}
 use Rattle.replies.specs.Wrote.{Wrote}
 use Rattle.replies.proofs.Writing.{wrote-none, wrote-more}
 use Rattle.driver.specs.Feed.{Feed, ended, replyTo, holding, next, says, after, said, newlineFrom}
 use Rattle.driver.specs.Fed.{Going, FedTo}
-use Rattle.driver.proofs.Cut.{keep}
 use Rattle.driver.proofs.Pieces.{after-append, said-append}
 
 -- no byte of x is a newline
@@ -34,7 +34,7 @@ plain-after f (b ∷ x) h p =
     let more = holding f (f .held ++ (b ∷ [])) in
     ap (λ (g : Feed). after g x) (no! (ended f) more (p 0 (omega arith)))
     ∙ plain-after more x (omega (arith, length-take 601 (f .held ++ (b ∷ [])))) (λ k l. p (suc k) (omega arith))
-    ∙ ap (withHeld f) (keep 601 (f .held ++ (b ∷ [])) x ∙ ap (take 601) (append-assoc (f .held) (b ∷ []) x))
+    ∙ ap (withHeld f) (take-kept 601 (f .held ++ (b ∷ [])) x ∙ ap (take 601) (append-assoc (f .held) (b ∷ []) x))
 
 plain-said : (f : Feed) (x : List ℕ) → Plain x → said f x ≡ []
 unfolding said says

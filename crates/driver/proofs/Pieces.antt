@@ -8,9 +8,10 @@ use lib.Dec.{eqb}
 use lib.ListN.{length, take}
 use borrow.Author.Tests.{eq-eqb, ne-eqb}
 use Rattle.lists.proofs.Choice.{yes!, no! }
+use Rattle.lists.proofs.Parts.{take-kept}
 use Rattle.model.specs.Session.{Session, Turn, lineTurn, linesFrom, outcomes, sessionOutcomes, textFrom, lineText, nextLine, header, sessionText}
 use Rattle.driver.specs.Feed.{Feed, ended, replyTo, next, says, after, said, lastWords, newFeed, spoken, joined}
-use Rattle.driver.proofs.Cut.{turn-cut, keep}
+use Rattle.driver.proofs.Cut.{turn-cut}
 
 -- pieces compose
 pub after-append : (f : Feed) (x y : List ℕ) → after f (x ++ y) ≡ after (after f x) y
@@ -75,7 +76,7 @@ by-bytes s n h (b ∷ bs) =
     go false e ends goes =
         let more = feedAt s n (h ++ (b ∷ [])) in
         let f : next (feedAt s n h) b ≡ more =
-        no! (ended (feedAt s n h)) _ e ∙ ap (λ (l : List ℕ). record { session = s; line = n; held = l }) (keep 601 h (b ∷ [])) in
+        no! (ended (feedAt s n h)) _ e ∙ ap (λ (l : List ℕ). record { session = s; line = n; held = l }) (take-kept 601 h (b ∷ [])) in
         let w : says (feedAt s n h) b ≡ [] = no! (replyTo (feedAt s n h)) [] e in
         rw (no! (h ∷ linesFrom [] bs) (linesFrom (h ++ (b ∷ [])) bs) e)
         (goes ∙ sym (all-turn (feedAt s n h) more b [] bs f w))

@@ -1,65 +1,73 @@
--- A line that is answered, in the loop and at the end of the input. Assumes nothing.
+-- A line of the loop: read, and answered at once or after it waited. Assumes nothing.
 use Prim.Native.Nat.{ℕ, _+_, _-_, _≤_, _<_, _%_, _^_}
+use mathlib.Core.Bool.{Bool, true, false}
 use mathlib.Core.List.{List, [], _++_}
-use mathlib.Core.Path.{_≡_, subst, ap, _∙_}
+use mathlib.Core.Path.{_≡_, refl, sym, ap, _∙_}
+use native.Mathlib.Nat.{sub-zero}
 use native.Mathlib.Omega.{arith}
-use lib.ListN.{length, take, drop, length-take}
+use lib.ListN.{length, take, drop, replicate, length-take}
+use lib.Seq.{take-at}
+use Rattle.lists.specs.Bytes.{over}
+use Rattle.lists.specs.Choice.{choose}
+use Rattle.lists.proofs.Choice.{yes!, no! }
 use Rattle.model.specs.declared.Request.{Request}
-use Rattle.model.specs.Session.{Session, Turn, lineTurn}
-use Rattle.replies.specs.Wrote.{Wrote}
+use Rattle.model.specs.Lines.{stores, lengthOf, readLine, dataOf}
+use Rattle.model.specs.Session.{Session, requestTurn, lineTurn}
+use Rattle.lines.proofs.Stored.{data-length, data-most}
 use Rattle.turns.specs.declared.Answered.{Answered}
 use Rattle.turns.specs.declared.Answered.the-variants.{To, NotYet}
 use Rattle.turns.specs.declared.Host.{Host}
-use Rattle.turns.specs.Taken.{sessionOf, withAt, Taken, AnsweredTo}
+use Rattle.turns.specs.Taken.{sessionOf, dataIn, Prepared, withAt, Taken, AnsweredTo}
 use Rattle.turns.proofs.Waiting.{answered-taken, yet-taken}
-use Rattle.driver.specs.declared.Session.{Session as Standing}
-use Rattle.driver.specs.Feed.{Feed, ended, replyTo, newlineFrom}
-use Rattle.driver.specs.Fed.{feedOf, Going}
+use Rattle.driver.specs.Feed.{Feed, newlineFrom}
+use Rattle.driver.specs.Fed.{Going}
 use Rattle.driver.proofs.Feeding.{going-line}
 
--- the line was put together
-turn-held : (s : Session) (held held₁ x : List ℕ) (have k n a : ℕ) (out out₁ m : List ℕ) (h : Host)
-    → take k held₁ ≡ take 601 (take have held ++ x)
-    → Taken (lineTurn s (take (k - 0) (drop 0 held₁))) n out a h m out₁ → Taken (lineTurn s (take 601 (take have held ++ x))) n out a h m out₁
-turn-held s held held₁ x have k n a out out₁ m h e t =
-    let z : k - 0 ≡ k = omega arith in
-    subst (λ (u : Turn). Taken u n out a h m out₁) (ap (λ j. lineTurn s (take j held₁)) z ∙ ap (lineTurn s) e) t
+-- What the reader leaves of the line l: its request q, and its data over the zeros of a buffer b.
+module _ (l : List ℕ) (q : Request) (b : List ℕ) (e : q ≡ readLine l) (f : b ≡ over (replicate 257 0) 0 (dataOf l)) where
+  read-data : dataIn q b ≡ dataOf l
+  unfolding dataIn dataOf over
+  read-data = rw e (go (stores (readLine l)) refl)
+    where
+      go : (t : Bool) → stores (readLine l) ≡ t → choose (stores (readLine l)) (take (lengthOf (readLine l)) b) [] ≡ dataOf l
+      go true y = yes! _ _ y ∙ rw f (take-at (dataOf l) _ (lengthOf (readLine l)) (data-length l y))
+      go false y = no! _ _ y ∙ sym (no! _ _ y)
 
--- it was answered at once
-pub held-answered : (h : Host) (q : Request) (m held held₁ x out m₁ out₁ : List ℕ) (have k n place : ℕ) (a : Answered)
-    → take k held₁ ≡ take 601 (take have held ++ x) → AnsweredTo h q m (take (k - 0) (drop 0 held₁)) n out a m₁ out₁ → a ≡ To place
-    → Taken (lineTurn (sessionOf h m) (take 601 (take have held ++ x))) n out (h .at) (withAt h place) m₁ out₁
-held-answered h q m held held₁ x out m₁ out₁ have k n place a e d t =
-    turn-held (sessionOf h m) held held₁ x have k n (h .at) out out₁ m₁ (withAt h place) e
-    (answered-taken h q m (take (k - 0) held₁) n out a m₁ out₁ d place t)
+  pub read-prepared : Prepared q b
+  read-prepared = record { filled = f ∙ ap (over (replicate 257 0) 0) (sym read-data); fits = λ y. rw e (data-most l (rw e at y)) }
 
--- it waited, and was answered then
-pub held-changed : (h : Host) (q : Request) (m held held₁ x out m₁ out₁ : List ℕ) (have k n : ℕ) (a : Answered) (h₁ : Host) (m₂ out₂ : List ℕ)
-    → take k held₁ ≡ take 601 (take have held ++ x) → AnsweredTo h q m (take (k - 0) (drop 0 held₁)) n out a m₁ out₁ → a ≡ NotYet
-    → Taken (lineTurn (sessionOf h m₁) (take (k - 0) (drop 0 held₁))) n out₁ (h .at) h₁ m₂ out₂
-    → Taken (lineTurn (sessionOf h m) (take 601 (take have held ++ x))) n out (h .at) h₁ m₂ out₂
-held-changed h q m held held₁ x out m₁ out₁ have k n a h₁ m₂ out₂ e d t r =
-    turn-held (sessionOf h m) held held₁ x have k n (h .at) out out₂ m₂ h₁ e
-    (yet-taken h q m (take (k - 0) held₁) n out a m₁ out₁ d h₁ m₂ out₂ t r)
+  read-turn : (s : Session) → requestTurn s q (dataIn q b) ≡ lineTurn s l
+  read-turn s = rw (read-data, e)
 
 -- where the loop stands
 abbrev pub feedAt : Host → (scratch : List ℕ) → (line have : ℕ) → (held : List ℕ) → Feed
 feedAt h m n k held = record { session = sessionOf h m; line = n; held = take k held }
 
--- a turn of the loop
-pub going-turn : (f : Feed) (s : Session) (h : Host) (input out out₁ out₂ m held : List ℕ) (i e a n n₁ have : ℕ)
-    → Going f input out i a (record { session = s; line = n; held = take have held }) out₁ → e ≡ newlineFrom input i → i ≤ e → e < length input → have ≤ 601
-    → Taken (lineTurn s (take 601 (take have held ++ take (e - i) (drop i input)))) n out₁ a h m out₂ → n₁ ≡ (n + 1) % 2 ^ 64
-    → Going f input out (e + 1) (h .at) (record { session = sessionOf h m; line = n₁; held = [] }) out₂
-going-turn f s h input out out₁ out₂ m held i e a n n₁ have g q l less few t c =
-    let short : length (take have held) ≤ 601 = omega (arith, length-take have held) in
-    rw c (going-line f input out out₁ i e a n s (take have held) g q l short (sessionOf h m) out₂ (h .at) less (t .session) (t .reply))
+-- A turn of the loop: from i on the line is completed up to its newline at e, and held in k bytes of held₁; it is read, and
+-- answered.
+module _ (f : Feed) (h : Host) (input out out₁ out₂ m m₁ held held₁ buffer : List ℕ) (i e n n₁ have k : ℕ) (q : Request) (x : Answered)
+    (g : Going f input out i (h .at) (feedAt h m n have held) out₁) (c : e ≡ newlineFrom input i) (l : i ≤ e) (less : e < length input) (few : have ≤ 601)
+    (p : take k held₁ ≡ take 601 (take have held ++ take (e - i) (drop i input)))
+    (r : q ≡ readLine (take (k - 0) (drop 0 held₁))) (d : buffer ≡ over (replicate 257 0) 0 (dataOf (take (k - 0) (drop 0 held₁))))
+    (a : AnsweredTo h q (dataIn q buffer) m n out₁ x m₁ out₂) (y : n₁ ≡ (n + 1) % 2 ^ 64) where
+  abbrev line : List ℕ
+  line = take 601 (take have held ++ take (e - i) (drop i input))
 
--- the last line
-pub last-answer : (s : Standing) (held m m₁ out out₁ : List ℕ) (h : Host)
-    → Taken (lineTurn (feedOf s held m .session) (take (s .have - 0) (drop 0 held))) (s .line) out 0 h m₁ out₁
-    → Wrote out 0 (replyTo (feedOf s held m)) out₁ (h .at) × (m₁ ≡ ended (feedOf s held m) .session .scratch)
-last-answer s held m m₁ out out₁ h t =
-    let z : s .have - 0 ≡ s .have = omega arith in
-    let u = rw z at t in
-    (u .reply, ap (λ (k : Session). k .scratch) (u .session))
+  line-read : requestTurn (sessionOf h m) q (dataIn q buffer) ≡ lineTurn (sessionOf h m) line
+  line-read = read-turn (take (k - 0) held₁) q buffer r d (sessionOf h m) ∙ ap (lineTurn (sessionOf h m)) (ap (λ j. take j held₁) (sub-zero k) ∙ p)
+
+  going-turn : (h₁ : Host) (m₂ out₃ : List ℕ) → Taken (requestTurn (sessionOf h m) q (dataIn q buffer)) n out₁ (h .at) h₁ m₂ out₃
+      → Going f input out (e + 1) (h₁ .at) (record { session = sessionOf h₁ m₂; line = n₁; held = [] }) out₃
+  going-turn h₁ m₂ out₃ t =
+      let short : length (take have held) ≤ 601 = omega (arith, length-take have held) in
+      let u : Taken (lineTurn (sessionOf h m) line) n out₁ (h .at) h₁ m₂ out₃ = rw line-read at t in
+      rw y (going-line f input out out₁ i e (h .at) n (sessionOf h m) (take have held) g c l short (sessionOf h₁ m₂) out₃ (h₁ .at) less (u .session) (u .reply))
+
+  -- it was answered at once
+  pub turn-answered : (place : ℕ) → x ≡ To place → Going f input out (e + 1) place (record { session = sessionOf h m₁; line = n₁; held = [] }) out₂
+  turn-answered place z = going-turn (withAt h place) m₁ out₂ (answered-taken h q (dataIn q buffer) m n out₁ x m₁ out₂ a place z)
+
+  -- it waited, and was answered then
+  pub turn-changed : (h₁ : Host) (m₂ out₃ : List ℕ) → x ≡ NotYet → Taken (requestTurn (sessionOf h m₁) q []) n out₂ (h .at) h₁ m₂ out₃
+      → Going f input out (e + 1) (h₁ .at) (record { session = sessionOf h₁ m₂; line = n₁; held = [] }) out₃
+  turn-changed h₁ m₂ out₃ z t = going-turn h₁ m₂ out₃ (yet-taken h q (dataIn q buffer) m n out₁ x m₁ out₂ a h₁ m₂ out₃ z t)

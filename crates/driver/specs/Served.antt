@@ -10,20 +10,20 @@ use Rattle.model.specs.declared.Request.{Request}
 use Rattle.model.specs.declared.Request.the-variants.{Frames, Call, NotRead}
 use Rattle.model.specs.Answers.{number}
 use Rattle.model.specs.Fresh.{emptyTables}
-use Rattle.model.specs.Lines.{readLine}
+use Rattle.model.specs.Lines.{readLine, dataOf}
 use Rattle.model.specs.Session.{LineOutcome, issueOf}
 use Rattle.model.specs.Sizes.{frameSize}
 use Rattle.model.specs.Step.{Machine, Issue, Outcome, run}
 
 -- the calls among lines, each with its buffer
-unfoldable pub withIssue : (line : List ℕ) → Request → List Issue → List Issue
-withIssue l (Call k n) is = issueOf k n l ∷ is
-withIssue l (Frames f) is = is
-withIssue l NotRead is = is
+unfoldable pub withIssue : Request → (bytes : List ℕ) → List Issue → List Issue
+withIssue (Call k n) d is = issueOf k n d ∷ is
+withIssue (Frames f) d is = is
+withIssue NotRead d is = is
 
 unfoldable pub issues : List (List ℕ) → List Issue
 issues [] = []
-issues (l ∷ ls) = withIssue l (readLine l) (issues ls)
+issues (l ∷ ls) = withIssue (readLine l) (dataOf l) (issues ls)
 
 -- what a call came to: its answer, and its buffer after it
 pub record Result : Type 0 where

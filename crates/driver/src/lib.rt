@@ -4,9 +4,7 @@ ghost use Prim.Native.Nat.{min, _+_, _≤_};
 ghost use mathlib.Core.List.{_++_};
 ghost use mathlib.Core.Path.{_≡_};
 ghost use lib.ListN.{length, take};
-ghost use Rattle.lines.specs.Tables.{callNames, callShapes};
-ghost use Rattle.replies.specs.Wrote.{Wrote};
-ghost use Rattle.driver.specs.Feed.{ended, replyTo, newlineFrom};
+ghost use Rattle.driver.specs.Feed.{newlineFrom};
 ghost use Rattle.driver.specs.Fed.{feedOf, opened, FedTo, FinishedTo};
 use model::State;
 use turns::Answered;
@@ -104,17 +102,15 @@ fn stand(host: Host, line: u64, have: usize, used: usize) -> Fed
     }
 }
 
-// A piece of input, with the reader's tables lent.
-fn feed_with(
+// A piece of input, where no more bytes are said to be held than there is room for.
+fn feed_lines(
     session: Session,
     held: &mut [u8],
     scratch: &mut [u8],
     input: &[u8],
-    names: &[u64; 14],
-    shapes: &[u64; 14],
     out: &mut [u8],
 ) -> Fed
-    requires { ⌜ (now names ≡ callNames) × (now shapes ≡ callShapes) × (length (now held) ≡ 601) × (session .have ≤ 601) ⌝ }
+    requires { ⌜ (length (now held) ≡ 601) × (session .have ≤ 601) ⌝ }
     ensures { λ r. ⌜ FedTo (feedOf session (now (held .entry)) (now (scratch .entry))) (now (input .entry)) (now (out .entry)) (r .used) (r .written) (feedOf (r .session) (now (held .exit)) (now (scratch .exit))) (now (out .exit)) ⌝ }
 {
     let state = session.state;
@@ -140,14 +136,15 @@ fn feed_with(
         line = std::num::wrapping_add_u64(line, 1);
         have = 0;
         i = e + 1;
-        let request = lines::read(&held[0..n], names, shapes);
-        let answered = turns::answer(host, scratch, &held[0..n], number, request, out);
+        let mut buffer = [0u8; 257];
+        let request = lines::read_line(&held[0..n], &mut buffer);
+        let answered = turns::answer(host, scratch, number, request, &mut buffer, out);
         match answered {
             Answered::To { place } => {
                 host.at = place;
             }
             Answered::NotYet => {
-                host = turns::change(host, scratch, &held[0..n], number, request, out);
+                host = turns::change(host, scratch, number, request, out);
             }
         }
     }
@@ -164,51 +161,12 @@ pub fn feed(
 ) -> Fed
     ensures { λ r. ⌜ FedTo (feedOf session (now (held .entry)) (now (scratch .entry))) (now (input .entry)) (now (out .entry)) (r .used) (r .written) (feedOf (r .session) (now (held .exit)) (now (scratch .exit))) (now (out .exit)) ⌝ }
 {
-    let names = lines::call_names();
-    let shapes = lines::call_shapes();
     session.have = kept(held, session.have);
-    feed_with(session, held, scratch, input, &names, &shapes, out)
+    feed_lines(session, held, scratch, input, out)
 }
 
-// A line that is held at the end of the input.
-fn last_line(
-    session: Session,
-    held: &[u8],
-    scratch: &mut [u8],
-    names: &[u64; 14],
-    shapes: &[u64; 14],
-    out: &mut [u8],
-) -> usize
-    requires { ⌜ (now names ≡ callNames) × (now shapes ≡ callShapes) × (session .have ≤ length (now held)) × (600 ≤ length (now out)) ⌝ }
-    ensures { λ r. ⌜ (Wrote (now (out .entry)) 0 (replyTo (feedOf session (now (held .entry)) (now (scratch .entry)))) (now (out .exit)) r) × (now (scratch .exit) ≡ ended (feedOf session (now (held .entry)) (now (scratch .entry))) .session .scratch) ⌝ }
-{
-    let state = session.state;
-    let host = Host {
-        begun: session.begun,
-        ready: turns::is_usable(state, scratch.len()),
-        at: 0,
-        state: state,
-    };
-    let have = session.have;
-    let after = turns::take_turn(
-        host,
-        scratch,
-        &held[0..have],
-        session.line,
-        names,
-        shapes,
-        out,
-    );
-    after.at
-}
-
-// The end of the input: a line that has a byte is answered.
-pub fn finish(
-    mut session: Session,
-    held: &[u8; 601],
-    scratch: &mut [u8],
-    out: &mut [u8],
-) -> Finished
+// The end of the input: a line that has a byte is answered, as by a newline.
+pub fn finish(session: Session, held: &[u8; 601], scratch: &mut [u8], out: &mut [u8]) -> Finished
     ensures { λ r. ⌜ FinishedTo (feedOf session (now (held .entry)) (now (scratch .entry))) (now (scratch .entry)) (now (out .entry)) (r .done) (r .written) (now (scratch .exit)) (now (out .exit)) ⌝ }
 {
     if out.len() < 600 {
@@ -217,17 +175,16 @@ pub fn finish(
             written: 0,
         };
     }
-    session.have = kept(held, session.have);
     if session.have == 0 {
         return Finished {
             done: true,
             written: 0,
         };
     }
-    let names = lines::call_names();
-    let shapes = lines::call_shapes();
+    let mut line = *held;
+    let fed = feed(session, &mut line, scratch, &[10], out);
     Finished {
         done: true,
-        written: last_line(session, held, scratch, &names, &shapes, out),
+        written: fed.written,
     }
 }

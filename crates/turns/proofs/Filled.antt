@@ -1,81 +1,79 @@
--- The buffer of a call, by what the code has found of its line. Assumes nothing.
-use Prim.Native.Nat.{ℕ, zero, suc, _+_, _≤_, _<_}
-use mathlib.Core.Bool.{true}
-use mathlib.Core.List.{List, [], _∷_}
-use mathlib.Core.Path.{_≡_, refl, sym, ap, _∙_}
-use native.Mathlib.Nat.{min-eq-left, min-eq-right}
+-- The buffer that the reader has filled for a request, and the part of it that a call has. Assumes nothing.
+use Prim.Native.Nat.{ℕ, min, _+_, _-_, _≤_}
+use mathlib.Core.Bool.{Bool, true, false}
+use mathlib.Core.List.{List, []}
+use mathlib.Core.Path.{_≡_, refl, subst, sym, ap, _∙_}
+use native.Mathlib.Nat.{sub-zero}
 use native.Mathlib.Omega.{arith}
-use denote.Enum.Declared.{tagOf}
-use types.Run.{OneOf, miss}
-use lib.ListN.{length, take, drop, replicate, length-replicate}
-use lib.Seq.{take-at}
+use lib.ListN.{length, take, drop, replicate, length-take, length-replicate}
 use Rattle.lists.specs.Bytes.{over}
+use Rattle.lists.specs.Choice.{choose}
 use Rattle.lists.proofs.Bytes.{length-over}
+use Rattle.lists.proofs.Choice.{yes!, no! }
+use Rattle.lists.proofs.Parts.{take-replicate}
 use Rattle.model.specs.declared.Call.{Call}
-use Rattle.model.specs.declared.Operation.{Operation}
-use Rattle.model.specs.declared.Operation.the-variants.{Enrol, Create, Destroy, Permit, Isolate, Query, Add, Remove, Load, Mode, Fetch, Store, Reset}
+use Rattle.model.specs.declared.Operation.the-variants.{Fetch, Store}
+use Rattle.model.specs.declared.Request.{Request}
 use Rattle.model.specs.declared.Request.the-variants.{Call as Asked}
-use Rattle.model.specs.Lines.{readLine, dataOf}
+use Rattle.model.specs.Lines.{isStore, stores, lengthOf}
 use Rattle.model.specs.Session.{bufferFor}
-use Rattle.model.proofs.Operation as operation-cases
-use Rattle.lines.specs.Stores.{isStore, stores, lengthOf}
-use Rattle.lines.proofs.Stored.{data-length, data-most}
+use Rattle.turns.specs.Taken.{dataIn, Prepared}
 
-take-zeros : (k n : ℕ) → k ≤ n → take k (replicate {A = ℕ} n 0) ≡ replicate k 0
-take-zeros zero n h = refl
-take-zeros (suc k) zero h = absurd (omega arith)
-take-zeros (suc k) (suc n) h = ap (λ l. 0 ∷ l) (take-zeros k n (omega arith))
+-- it has 257 bytes
+data-most : (q : Request) (b : List ℕ) → (stores q ≡ true → lengthOf q ≤ 257) → length (dataIn q b) ≤ 257
+unfolding dataIn choose
+data-most q b f = go (stores q) f
+  where
+    go : (t : Bool) → (t ≡ true → lengthOf q ≤ 257) → length (choose t (take (lengthOf q) b) []) ≤ 257
+    go true f = let h = f refl in omega (arith, length-take (lengthOf q) b)
+    go false f = omega arith
 
-pub zeros-long : (b : List ℕ) → b ≡ replicate 257 0 → length b ≡ 257
-zeros-long b e = ap length e ∙ length-replicate {A = ℕ} 257 0
+pub prepared-long : (q : Request) (b : List ℕ) → Prepared q b → length b ≡ 257
+prepared-long q b p =
+    let z : length (replicate {A = ℕ} 257 0) ≡ 257 = length-replicate {A = ℕ} 257 0 in
+    ap length (p .filled) ∙ length-over (replicate 257 0) 0 (dataIn q b) (omega (arith, data-most q b (p .fits))) ∙ z
 
-module _ (o : Operation) (size : ℕ) (l b : List ℕ) where
+-- so a call's part lies in it
+pub part-within : (q : Request) (b : List ℕ) (size n : ℕ) → Prepared q b → n ≡ min size 257 → n ≤ length b
+part-within q b size n p e = omega (arith, prepared-long q b p)
+
+pub part-most : (b : List ℕ) (size n : ℕ) → n ≡ min size 257 → length (take (n - 0) (drop 0 b)) ≤ 257
+part-most b size n e = omega (arith, length-take (n - 0) b)
+
+-- the buffer of a request that is known to be a call
+pub prepared-known : (q : Request) (k : Call) (size : ℕ) (b : List ℕ) → q ≡ Asked k size → Prepared q b → Prepared (Asked k size) b
+prepared-known q k size b e p = subst (λ (x : Request). Prepared x b) e p
+
+-- a request that does not store has no data
+pub unstoring : (q : Request) (b : List ℕ) → stores q ≡ false → dataIn q b ≡ []
+unfolding dataIn
+unstoring q b e = no! _ _ e
+
+-- a FETCH has no data
+pub fetch-bare : (q : Request) (k : Call) (size register address : ℕ) (b : List ℕ) → q ≡ Asked k size → k .operation ≡ Fetch register address → dataIn q b ≡ []
+unfolding stores isStore
+fetch-bare q k size register address b g o = unstoring q b (rw (g, o) refl)
+
+-- the length that a call has is its request's
+pub known-length : (q : Request) (k : Call) (size : ℕ) → q ≡ Asked k size → q ≡ Asked k (lengthOf q)
+unfolding lengthOf
+known-length q k size g = rw g
+
+-- the part of a call: n bytes of the buffer, as they are lent
+module _ (q : Request) (k : Call) (size : ℕ) (b : List ℕ) (n register address : ℕ) (p : Prepared q b) (g : q ≡ Asked k size) (c : n ≡ min size 257) where
   -- FETCH: zeros, 257 of them at most
-  pub fetch-long : (r a : ℕ) → b ≡ replicate 257 0 → o ≡ Fetch r a → 257 < size → take 257 b ≡ bufferFor o size l
-  unfolding bufferFor
-  fetch-long r a e q h = rw (q, e, min-eq-right {n = 257} {m = size} (omega arith)) (take-zeros 257 257 (omega arith))
+  pub fetch-given : k .operation ≡ Fetch register address → take (n - 0) (drop 0 b) ≡ bufferFor (k .operation) (lengthOf q) []
+  unfolding bufferFor lengthOf over
+  fetch-given o =
+      let none : dataIn q b ≡ [] = fetch-bare q k size register address b g o in
+      let zeros : b ≡ replicate 257 0 = p .filled ∙ ap (over (replicate 257 0) 0) none in
+      rw (o, g) (ap (λ j. take j b) (sub-zero n ∙ c) ∙ ap (take (min size 257)) zeros ∙ take-replicate (min size 257) 257 0 (omega arith))
 
-  pub fetch-short : (r a : ℕ) → b ≡ replicate 257 0 → o ≡ Fetch r a → size ≤ 257 → take size b ≡ bufferFor o size l
-  unfolding bufferFor
-  fetch-short r a e q h = rw (q, e, min-eq-left {n = size} {m = 257} h) (take-zeros size 257 h)
-
--- STORE: the line's data
-module _ (k : Call) (size : ℕ) (l : List ℕ) (r a : ℕ) (q : readLine l ≡ Asked k size) (e : k .operation ≡ Store r a) where
-  pub store-asked : stores (readLine l) ≡ true
-  unfolding stores isStore
-  store-asked = rw (q, e) refl
-
-  pub store-room : (b : List ℕ) → b ≡ replicate 257 0 → lengthOf (readLine l) ≤ length b
-  store-room b f = rw (zeros-long b f) (data-most l store-asked)
-
-  pub store-most : (n : ℕ) → n ≡ lengthOf (readLine l) → n ≤ 257
-  store-most n f = rw f (data-most l store-asked)
-
-  pub store-filled : (n : ℕ) (b t : List ℕ) → n ≡ lengthOf (readLine l) → t ≡ over b 0 (dataOf l) → take n t ≡ bufferFor (k .operation) size l
-  unfolding bufferFor over
-  store-filled n b t f g = rw (e, g) (take-at (dataOf l) (drop (0 + length (dataOf l)) b) n (data-length l store-asked ∙ sym f))
-
-  pub store-long : (b t : List ℕ) → b ≡ replicate 257 0 → t ≡ over b 0 (dataOf l) → length t ≡ 257
-  store-long b t f g =
-      let h : 0 + length (dataOf l) ≤ length b = omega (arith, data-length l store-asked, store-room b f) in
-      ap length g ∙ length-over b 0 (dataOf l) h ∙ zeros-long b f
-
--- any other call: nothing. The calls by their places in the enum.
-abbrev others : List ℕ
-others = 0 ∷ 1 ∷ 2 ∷ 3 ∷ 4 ∷ 5 ∷ 6 ∷ 7 ∷ 8 ∷ 9 ∷ 12 ∷ []
-
-pub none-filled : (o : Operation) (size : ℕ) (l : List ℕ) → OneOf others (tagOf operation-cases.the-type o) → [] ≡ bufferFor o size l
-unfolding bufferFor
-none-filled (Enrol pages allowance share list asf) size l h = refl
-none-filled (Create name pages) size l h = refl
-none-filled (Destroy id) size l h = refl
-none-filled (Permit id guest right) size l h = refl
-none-filled (Isolate id) size l h = refl
-none-filled (Query owner name) size l h = refl
-none-filled (Add id right) size l h = refl
-none-filled (Remove token) size l h = refl
-none-filled (Load register value) size l h = refl
-none-filled (Mode mode) size l h = refl
-none-filled (Fetch register address) size l h = absurd (miss others 10 tt h)
-none-filled (Store register address) size l h = absurd (miss others 11 tt h)
-none-filled Reset size l h = refl
+  -- STORE: its data
+  pub store-given : k .operation ≡ Store register address → take (n - 0) (drop 0 b) ≡ dataIn q b
+  unfolding stores isStore lengthOf dataIn
+  store-given o =
+      let s : stores q ≡ true = rw (g, o) refl in
+      let l : lengthOf q ≡ size = rw g refl in
+      let few : n - 0 ≡ lengthOf q = omega (arith, p .fits s) in
+      ap (λ j. take j b) few ∙ sym (yes! _ _ s)

@@ -1,4 +1,4 @@
--- Turns that write a reply and change no byte of scratch: lines that are not read, and FRAMES. Assumes nothing.
+-- Turns that write a reply and change no byte of scratch: what is not read, and FRAMES. Assumes nothing.
 use Prim.Native.Nat.{ℕ}
 use mathlib.Core.Bool.{Bool, true, false, not}
 use mathlib.Core.List.{List, []}
@@ -16,8 +16,7 @@ use Rattle.model.specs.declared.Request.{Request}
 use Rattle.model.specs.declared.Request.the-variants.{Frames, Call as Asked, NotRead}
 use Rattle.model.specs.declared.State.{State}
 use Rattle.model.specs.Fresh.{emptyTables}
-use Rattle.model.specs.Lines.{readLine}
-use Rattle.model.specs.Session.{LineOutcome, Turn, turn, framesTurn, lineText, requestTurn, lineTurn}
+use Rattle.model.specs.Session.{Session, LineOutcome, Turn, turn, framesTurn, lineText, requestTurn}
 use Rattle.replies.specs.Wrote.{Wrote}
 use Rattle.turns.specs.declared.Host.{Host}
 use Rattle.turns.specs.Taken.{sessionOf, usable, withAt, Said, Taken}
@@ -60,43 +59,44 @@ module _ (h h' : Host) (m out out' : List ℕ) (number count : ℕ) where
       said-taken (record { begun = true; ready = y; at = h .at; state = s }) h' m out out' number (Frames count) (Done 0) _ k d
       (no! _ _ b ∙ yes! _ _ (sym e ∙ not-false x f) ∙ ap (λ t. turn (Frames count) (Done 0) [] (record { begun = true; tables = t; scratch = m })) (sym q))
 
--- What a line asks for, as the code has read it.
-module _ (h h' : Host) (m l out out' : List ℕ) (number : ℕ) (x : Request) (e : x ≡ readLine l) where
+-- What a request asks for, as the code has found it.
+module _ (h h' : Host) (m d out out' : List ℕ) (number : ℕ) (x : Request) where
   -- FRAMES
   pub frames-taken : (count : ℕ) → x ≡ Frames count → Taken (framesTurn (sessionOf h m) count) number out (h .at) h' m out'
-      → Taken (lineTurn (sessionOf h m) l) number out (h .at) h' m out'
+      → Taken (requestTurn (sessionOf h m) x d) number out (h .at) h' m out'
   unfolding requestTurn
-  frames-taken count q t = rw (sym e ∙ q) t
+  frames-taken count q t = rw q t
 
   -- a call before a done FRAMES
   early-taken : (k : Call) (size : ℕ) → x ≡ Asked k size → not (h .begun) ≡ true → h .ready ≡ usable (h .state) (length m)
-      → Said h number (outcomeOf (Asked k size) LineNotRead) out h' out' → Taken (lineTurn (sessionOf h m) l) number out (h .at) h' m out'
+      → Said h number (outcomeOf (Asked k size) LineNotRead) out h' out' → Taken (requestTurn (sessionOf h m) x d) number out (h .at) h' m out'
   unfolding requestTurn
-  early-taken k size q b u d =
-      said-taken h h' m out out' number (Asked k size) LineNotRead _ u d (ap (requestTurn (sessionOf h m) l) (sym e ∙ q) ∙ no! _ _ (not-true (h .begun) b))
+  early-taken k size q b u r =
+      said-taken h h' m out out' number (Asked k size) LineNotRead _ u r (ap (λ y. requestTurn (sessionOf h m) y d) q ∙ no! _ _ (not-true (h .begun) b))
 
-  -- a line that is not read
+  -- what is not read
   pub unread-taken : x ≡ NotRead → h .ready ≡ usable (h .state) (length m)
-      → Said h number (outcomeOf x LineNotRead) out h' out' → Taken (lineTurn (sessionOf h m) l) number out (h .at) h' m out'
+      → Said h number (outcomeOf x LineNotRead) out h' out' → Taken (requestTurn (sessionOf h m) x d) number out (h .at) h' m out'
   unfolding requestTurn
-  unread-taken q u d =
-      said-taken h h' m out out' number x LineNotRead _ u d
-      (ap (requestTurn (sessionOf h m) l) (sym e ∙ q) ∙ ap (λ y. turn y LineNotRead [] (sessionOf h m)) (sym q))
+  unread-taken q u r =
+      said-taken h h' m out out' number x LineNotRead _ u r
+      (ap (λ y. requestTurn (sessionOf h m) y d) q ∙ ap (λ y. turn y LineNotRead [] (sessionOf h m)) (sym q))
 
 -- the same where the code has written the reply
 said-at : (h : Host) (number p : ℕ) (x : Request) (out out' : List ℕ) → Wrote out (h .at) (lineText number (outcomeOf x LineNotRead)) out' p
     → Said h number (outcomeOf x LineNotRead) out (withAt h p) out'
 said-at h number p x out out' w = record { same = refl; reply = w }
 
-module _ (h : Host) (m l out out' : List ℕ) (number p : ℕ) (x : Request) (e : x ≡ readLine l) (u : h .ready ≡ usable (h .state) (length m)) where
+module _ (h : Host) (m d out out' : List ℕ) (number p : ℕ) (x : Request) (u : h .ready ≡ usable (h .state) (length m)) where
   pub early-answered : (k : Call) (size : ℕ) → x ≡ Asked k size → not (h .begun) ≡ true → Wrote out (h .at) (lineText number (outcomeOf (Asked k size) LineNotRead)) out' p
-      → Taken (lineTurn (sessionOf h m) l) number out (h .at) (withAt h p) m out'
-  early-answered k size q b w = early-taken h (withAt h p) m l out out' number x e k size q b u (said-at h number p (Asked k size) out out' w)
+      → Taken (requestTurn (sessionOf h m) x d) number out (h .at) (withAt h p) m out'
+  early-answered k size q b w = early-taken h (withAt h p) m d out out' number x k size q b u (said-at h number p (Asked k size) out out' w)
 
   pub unread-answered : x ≡ NotRead → Wrote out (h .at) (lineText number (outcomeOf x LineNotRead)) out' p
-      → Taken (lineTurn (sessionOf h m) l) number out (h .at) (withAt h p) m out'
-  unread-answered q w = unread-taken h (withAt h p) m l out out' number x e q u (said-at h number p x out out' w)
+      → Taken (requestTurn (sessionOf h m) x d) number out (h .at) (withAt h p) m out'
+  unread-answered q w = unread-taken h (withAt h p) m d out out' number x q u (said-at h number p x out out' w)
 
--- the line is the call that was read
-pub line-asks : (l : List ℕ) (x y : Request) → x ≡ readLine l → x ≡ y → readLine l ≡ y
-line-asks l x y e q = sym e ∙ q
+-- the request is the call that was found
+pub known-taken : (s : Session) (q : Request) (k : Call) (size number place : ℕ) (d m out out' : List ℕ) (h : Host) → q ≡ Asked k size
+    → Taken (requestTurn s (Asked k size) d) number out place h m out' → Taken (requestTurn s q d) number out place h m out'
+known-taken s q k size number place d m out out' h g t = rw g t

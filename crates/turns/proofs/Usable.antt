@@ -3,16 +3,15 @@ use Prim.Native.Nat.{ℕ, _+_, _-_, _*_, _≤_}
 use mathlib.Core.Bool.{Bool, true}
 use mathlib.Core.List.{List, _++_}
 use mathlib.Core.Path.{_≡_, sym, ap, _∙_}
-use native.Mathlib.Decide.{decLe}
 use native.Mathlib.Nat.{sub-zero}
 use native.Mathlib.Omega.{arith}
-use lib.Dec.{leb, eqb}
-use lib.ListN.{length, take, drop, take-append-drop, length-append}
-use lib.Seq.{take-all, length-take-le}
-use borrow.Author.Tests.{leb-true, le-leb, lt-leb, eq-eqb, ne-eqb}
+use lib.ListN.{length, take, drop, length-append}
+use lib.Seq.{length-take-le}
+use borrow.Author.Tests.{leb-true, le-leb}
 use Rattle.lists.specs.Bytes.{over}
 use Rattle.lists.specs.Choice.{both}
 use Rattle.lists.proofs.Choice.{both-left, both-right, both-intro}
+use Rattle.lists.proofs.Parts.{take-enough}
 use Rattle.model.specs.declared.State.{State}
 use Rattle.model.specs.Calls.{ready}
 use Rattle.model.specs.SoundTest.{sound}
@@ -20,20 +19,10 @@ use Rattle.model.specs.Step.{Ready}
 use Rattle.model.proofs.SoundTest.{sound-decides}
 use Rattle.turns.specs.Taken.{usable}
 
--- a list has n elements where its first n are n
-enough : (n : ℕ) (m : List ℕ) → leb n (length m) ≡ eqb (length (take n m)) n
-enough n m = go (decLe n (length m))
-  where
-    go : Dec (n ≤ length m) → leb n (length m) ≡ eqb (length (take n m)) n
-    go (yes h) = le-leb n (length m) h ∙ sym (eq-eqb _ n (length-take-le n m h))
-    go (no h) =
-        let e : length (take n m) ≡ length m = ap length (take-all n m (omega arith)) in
-        lt-leb n (length m) (omega arith) ∙ sym (ne-eqb _ n (λ z. omega arith))
-
 -- it is the model's check 1 of the machine
 pub usable-ready : (s : State) (m : List ℕ) → usable s (length m) ≡ ready s (length (take (s .frames * 4096) m))
 unfolding ready
-usable-ready s m = ap (both (sound s)) (enough (s .frames * 4096) m)
+usable-ready s m = ap (both (sound s)) (take-enough (s .frames * 4096) m)
 
 -- what a test of it has found
 module _ (s : State) (m : List ℕ) (x : Bool) (e : x ≡ usable s (length m)) (t : x ≡ true) where
@@ -55,18 +44,3 @@ unfolding over
 usable-back s m x r =
     let l : length (x ++ drop (0 + length x) m) ≡ length x + length (drop (0 + length x) m) = length-append x _ in
     both-intro _ _ (sound-decides s .of (r .sound)) (le-leb (s .frames * 4096) (length (x ++ drop (0 + length x) m)) (omega (arith, r .room)))
-
--- the first elements of a list, put back into it, and any others in their place
-pub over-same : (n : ℕ) (m : List ℕ) → over m 0 (take n m) ≡ m
-unfolding over
-over-same n m = go (decLe n (length m))
-  where
-    go : Dec (n ≤ length m) → take n m ++ drop (0 + length (take n m)) m ≡ m
-    go (yes h) =
-        let e : 0 + length (take n m) ≡ n = omega (arith, length-take-le n m h) in
-        ap (λ k. take n m ++ drop k m) e ∙ take-append-drop n m
-    go (no h) =
-        let q : take n m ≡ m = take-all n m (omega arith) in
-        ap (λ l. l ++ drop (0 + length l) m) q
-        ∙ ap (λ l. l ++ drop (0 + length m) m) (sym (take-all (0 + length m) m (omega arith)))
-        ∙ take-append-drop (0 + length m) m

@@ -1,15 +1,17 @@
--- What becomes of one line: the session after it, and its reply.
-use Prim.Native.Nat.{ℕ, _*_}
+-- What becomes of one request: the session after it, and its reply.
+use Prim.Native.Nat.{ℕ, _*_, _≤_}
 use mathlib.Core.Bool.{Bool, true}
 use mathlib.Core.List.{List, []}
 use mathlib.Core.Path.{_≡_}
 use lib.Dec.{leb}
-use Rattle.lists.specs.Choice.{both}
-use lib.ListN.{length}
+use lib.ListN.{length, take, replicate}
+use Rattle.lists.specs.Bytes.{over}
+use Rattle.lists.specs.Choice.{choose, both}
 use Rattle.model.specs.declared.Request.{Request}
 use Rattle.model.specs.declared.Request.the-variants.{Frames, Call, NotRead}
 use Rattle.model.specs.declared.State.{State}
-use Rattle.model.specs.Session.{Session, LineOutcome, Turn, bufferFor, lineText, lineTurn}
+use Rattle.model.specs.Lines.{stores, lengthOf}
+use Rattle.model.specs.Session.{Session, LineOutcome, Turn, bufferFor, lineText, requestTurn}
 use Rattle.model.specs.Sizes.{frameSize}
 use Rattle.model.specs.SoundTest.{sound}
 use Rattle.replies.specs.Wrote.{Wrote}
@@ -25,6 +27,15 @@ sessionOf h m = record { begun = h .begun; tables = h .state; scratch = m }
 abbrev pub usable : State → (room : ℕ) → Bool
 usable s room = both (sound s) (leb (s .frames * frameSize) room)
 
+-- the data that stand in a request's buffer
+unfoldable pub dataIn : Request → (buffer : List ℕ) → List ℕ
+dataIn q b = choose (stores q) (take (lengthOf q) b) []
+
+-- the buffer as the reader leaves it: a store finds its data in front, and all other bytes are zeros
+pub record Prepared (q : Request) (b : List ℕ) : Type 0 where
+  pub filled : b ≡ over (replicate 257 0) 0 (dataIn q b)
+  pub fits : stores q ≡ true → lengthOf q ≤ 257
+
 -- a reply has been written, and nothing else has changed
 abbrev pub withAt : Host → ℕ → Host
 withAt h a = record { begun = h .begun; ready = h .ready; at = a; state = h .state }
@@ -39,13 +50,13 @@ pub record Taken (t : Turn) (number : ℕ) (out : List ℕ) (place : ℕ) (h : H
   pub reply : Wrote out place (lineText number (t .outcome)) out' (h .at)
   pub ready : h .ready ≡ usable (h .state) (length m)
 
--- what a line that is not answered yet asks for finds: a call finds a host that check 1 holds of, and moves no bytes
-abbrev pub Waiting : Host → (line : List ℕ) → Request → Type 0
-Waiting h l (Frames count) = Unit {0}
-Waiting h l (Call k size) = (h .begun ≡ true) × (h .ready ≡ true) × (bufferFor (k .operation) size l ≡ [])
-Waiting h l NotRead = Unit {0}
+-- what a request that is not answered yet finds: a call finds a host that check 1 holds of, and moves no bytes
+abbrev pub Waiting : Host → Request → Type 0
+Waiting h (Frames count) = Unit {0}
+Waiting h (Call k size) = (h .begun ≡ true) × (h .ready ≡ true) × (bufferFor (k .operation) size [] ≡ [])
+Waiting h NotRead = Unit {0}
 
--- the line l has been answered, and the tables are as they were; or nothing has been done yet
-abbrev pub AnsweredTo : Host → Request → (m l : List ℕ) → (number : ℕ) → (out : List ℕ) → Answered → (m' out' : List ℕ) → Type 0
-AnsweredTo h q m l number out (To place) m' out' = Taken (lineTurn (sessionOf h m) l) number out (h .at) (withAt h place) m' out'
-AnsweredTo h q m l number out NotYet m' out' = Waiting h l q × (m' ≡ m) × (out' ≡ out)
+-- the request q with the data d has been answered, and the tables are as they were; or it has no data, and nothing has been done yet
+abbrev pub AnsweredTo : Host → Request → (d m : List ℕ) → (number : ℕ) → (out : List ℕ) → Answered → (m' out' : List ℕ) → Type 0
+AnsweredTo h q d m number out (To place) m' out' = Taken (requestTurn (sessionOf h m) q d) number out (h .at) (withAt h place) m' out'
+AnsweredTo h q d m number out NotYet m' out' = Waiting h q × (d ≡ []) × (m' ≡ m) × (out' ≡ out)

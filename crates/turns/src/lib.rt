@@ -1,18 +1,17 @@
-// One line of a session: read, carried out and answered.
-ghost use Prim.Native.Nat.{_+_, _*_, _≤_};
+// One request of a session, with the buffer that the reader has filled for it: carried out and answered.
+ghost use Prim.Native.Nat.{min, _+_, _*_, _≤_};
 ghost use mathlib.Core.Bool.{true};
 ghost use mathlib.Core.List.{[]};
 ghost use mathlib.Core.Path.{_≡_};
 ghost use lib.Dec.{leb};
-ghost use lib.ListN.{length, take, replicate};
+ghost use lib.ListN.{length};
 ghost use Rattle.lists.specs.Choice.{both};
-ghost use Rattle.lines.specs.Tables.{callNames, callShapes};
-ghost use Rattle.model.specs.Lines.{readLine};
-ghost use Rattle.model.specs.Session.{bufferFor, framesTurn, lineText, lineTurn};
+ghost use Rattle.model.specs.Lines.{lengthOf};
+ghost use Rattle.model.specs.Session.{bufferFor, framesTurn, requestTurn, lineText};
 ghost use Rattle.model.specs.declared.Operation.the-variants.{Fetch, Store};
 ghost use Rattle.model.specs.declared.Request.the-variants.{Call as Asked};
 ghost use Rattle.replies.specs.Wrote.{Wrote};
-ghost use Rattle.turns.specs.Taken.{sessionOf, usable, Said, Taken, Waiting, AnsweredTo, withAt};
+ghost use Rattle.turns.specs.Taken.{sessionOf, usable, dataIn, Prepared, Said, Taken, Waiting, AnsweredTo, withAt};
 use model::Answer;
 use model::Call;
 use model::Kind;
@@ -30,7 +29,7 @@ pub struct Host {
     pub state: State,
 }
 
-// What became of a line that leaves the tables: its reply ends at a place. A line that may change them is not answered yet.
+// What became of a request that leaves the tables: its reply ends at a place. One that may change them is not answered yet.
 pub enum Answered {
     To { place: usize },
     NotYet,
@@ -64,72 +63,52 @@ fn put_empty(out: &mut [u8], at: usize, number: u64, request: Request, answer: A
     replies::put_line(out, at, number, request, answer, &[])
 }
 
-// The buffer of a call, in the first bytes of `buffer`; how many they are.
-fn fill(line: &[u8], call: Call, size: u32, buffer: &mut [u8; 257]) -> usize
-    requires { ⌜ (readLine (now line) ≡ Asked call size) × (now buffer ≡ replicate 257 0) ⌝ }
-    ensures { λ r. ⌜ (take r (now (buffer .exit)) ≡ bufferFor (call .operation) size (now (line .entry))) × (r ≤ 257) × (length (now (buffer .exit)) ≡ 257) ⌝ }
+// How many bytes of the buffer a FETCH or a STORE has: its length, 257 at most.
+fn moved(size: u32) -> usize
+    ensures { λ r. ⌜ r ≡ min size 257 ⌝ }
 {
-    let operation = call.operation;
-    match operation {
-        Operation::Fetch { .. } => {
-            if 257 < size {
-                return 257;
-            }
-            size as usize
-        }
-        Operation::Store { .. } => lines::read_data(line, buffer),
-        _ => 0,
+    if 257 < size {
+        return 257;
     }
+    size as usize
 }
 
-// FETCH, STORE and QUERY leave the tables, so that only the place after the reply comes back.
+// FETCH, STORE and QUERY leave the tables, so that only the place after the reply comes back. The bytes of a FETCH or a STORE
+// are its part of the buffer.
 fn answer_fetch(
     h: Host,
     scratch: &[u8],
-    line: &[u8],
     number: u64,
     request: Request,
     call: Call,
-    size: u32,
     register: u32,
     address: u32,
+    bytes: &mut [u8],
     out: &mut [u8],
 ) -> usize
-    requires { ⌜ (readLine (now line) ≡ Asked call size) × (request ≡ Asked call size) × (h .begun ≡ true) × (h .ready ≡ true) × (h .ready ≡ usable (h .state) (length (now scratch))) × (h .at + 600 ≤ length (now out)) × (call .operation ≡ Fetch register address) ⌝ }
-    ensures { λ r. ⌜ Taken (lineTurn (sessionOf h (now (scratch .entry))) (now (line .entry))) number (now (out .entry)) (h .at) (withAt h r) (now (scratch .entry)) (now (out .exit)) ⌝ }
+    requires { ⌜ (request ≡ Asked call (lengthOf request)) × (h .begun ≡ true) × (h .ready ≡ true) × (h .ready ≡ usable (h .state) (length (now scratch))) × (h .at + 600 ≤ length (now out)) × (call .operation ≡ Fetch register address) × (now bytes ≡ bufferFor (call .operation) (lengthOf request) []) × (length (now bytes) ≤ 257) ⌝ }
+    ensures { λ r. ⌜ Taken (requestTurn (sessionOf h (now (scratch .entry))) request []) number (now (out .entry)) (h .at) (withAt h r) (now (scratch .entry)) (now (out .exit)) ⌝ }
 {
-    let mut buffer = [0u8; 257];
-    let n = fill(line, call, size, &mut buffer);
     let s = h.state;
     let room = (s.frames as usize) * 4096;
-    let answer = access::fetch(
-        s,
-        &scratch[0..room],
-        call.caller,
-        register,
-        address,
-        &mut buffer[0..n],
-    );
-    replies::put_line(out, h.at, number, request, answer, &buffer[0..n])
+    let answer = access::fetch(s, &scratch[0..room], call.caller, register, address, bytes);
+    replies::put_line(out, h.at, number, request, answer, bytes)
 }
 
 fn answer_store(
     h: Host,
     scratch: &mut [u8],
-    line: &[u8],
     number: u64,
     request: Request,
     call: Call,
-    size: u32,
     register: u32,
     address: u32,
+    bytes: &[u8],
     out: &mut [u8],
 ) -> usize
-    requires { ⌜ (readLine (now line) ≡ Asked call size) × (request ≡ Asked call size) × (h .begun ≡ true) × (h .ready ≡ true) × (h .ready ≡ usable (h .state) (length (now scratch))) × (h .at + 600 ≤ length (now out)) × (call .operation ≡ Store register address) ⌝ }
-    ensures { λ r. ⌜ Taken (lineTurn (sessionOf h (now (scratch .entry))) (now (line .entry))) number (now (out .entry)) (h .at) (withAt h r) (now (scratch .exit)) (now (out .exit)) ⌝ }
+    requires { ⌜ (request ≡ Asked call (lengthOf request)) × (h .begun ≡ true) × (h .ready ≡ true) × (h .ready ≡ usable (h .state) (length (now scratch))) × (h .at + 600 ≤ length (now out)) × (call .operation ≡ Store register address) × (length (now bytes) ≤ 257) ⌝ }
+    ensures { λ r. ⌜ Taken (requestTurn (sessionOf h (now (scratch .entry))) request (now (bytes .entry))) number (now (out .entry)) (h .at) (withAt h r) (now (scratch .exit)) (now (out .exit)) ⌝ }
 {
-    let mut buffer = [0u8; 257];
-    let n = fill(line, call, size, &mut buffer);
     let s = h.state;
     let room = (s.frames as usize) * 4096;
     let answer = access::store(
@@ -138,26 +117,27 @@ fn answer_store(
         call.caller,
         register,
         address,
-        &buffer[0..n],
+        bytes,
     );
-    replies::put_line(out, h.at, number, request, answer, &buffer[0..n])
+    replies::put_line(out, h.at, number, request, answer, bytes)
 }
 
 // A call that leaves the tables is answered, where check 1 holds.
 fn answer_call(
     h: Host,
     scratch: &mut [u8],
-    line: &[u8],
     number: u64,
     request: Request,
     call: Call,
     size: u32,
+    buffer: &mut [u8],
     out: &mut [u8],
 ) -> Answered
-    requires { ⌜ (readLine (now line) ≡ Asked call size) × (request ≡ Asked call size) × (h .begun ≡ true) × (h .ready ≡ true) × (h .ready ≡ usable (h .state) (length (now scratch))) × (h .at + 600 ≤ length (now out)) ⌝ }
-    ensures { λ r. ⌜ AnsweredTo h request (now (scratch .entry)) (now (line .entry)) number (now (out .entry)) r (now (scratch .exit)) (now (out .exit)) ⌝ }
+    requires { ⌜ Prepared request (now buffer) × (request ≡ Asked call size) × (h .begun ≡ true) × (h .ready ≡ true) × (h .ready ≡ usable (h .state) (length (now scratch))) × (h .at + 600 ≤ length (now out)) ⌝ }
+    ensures { λ r. ⌜ AnsweredTo h request (dataIn request (now (buffer .entry))) (now (scratch .entry)) number (now (out .entry)) r (now (scratch .exit)) (now (out .exit)) ⌝ }
 {
     let operation = call.operation;
+    let n = moved(size);
     match operation {
         Operation::Query { owner, name } => {
             let s = h.state;
@@ -170,13 +150,12 @@ fn answer_call(
             place: answer_fetch(
                 h,
                 scratch,
-                line,
                 number,
                 request,
                 call,
-                size,
                 register,
                 address,
+                &mut buffer[0..n],
                 out,
             ),
         },
@@ -184,13 +163,12 @@ fn answer_call(
             place: answer_store(
                 h,
                 scratch,
-                line,
                 number,
                 request,
                 call,
-                size,
                 register,
                 address,
+                &buffer[0..n],
                 out,
             ),
         },
@@ -198,17 +176,17 @@ fn answer_call(
     }
 }
 
-// A line that has been read is answered, where that leaves the tables.
+// A request is answered, where that leaves the tables.
 pub fn answer(
     h: Host,
     scratch: &mut [u8],
-    line: &[u8],
     number: u64,
     request: Request,
+    buffer: &mut [u8],
     out: &mut [u8],
 ) -> Answered
-    requires { ⌜ (request ≡ readLine (now line)) × (h .ready ≡ usable (h .state) (length (now scratch))) × (h .at + 600 ≤ length (now out)) ⌝ }
-    ensures { λ r. ⌜ AnsweredTo h request (now (scratch .entry)) (now (line .entry)) number (now (out .entry)) r (now (scratch .exit)) (now (out .exit)) ⌝ }
+    requires { ⌜ Prepared request (now buffer) × (h .ready ≡ usable (h .state) (length (now scratch))) × (h .at + 600 ≤ length (now out)) ⌝ }
+    ensures { λ r. ⌜ AnsweredTo h request (dataIn request (now (buffer .entry))) (now (scratch .entry)) number (now (out .entry)) r (now (scratch .exit)) (now (out .exit)) ⌝ }
 {
     match request {
         Request::Frames { .. } => Answered::NotYet,
@@ -223,7 +201,7 @@ pub fn answer(
                     place: put_empty(out, h.at, number, request, Answer::Unsound),
                 };
             }
-            answer_call(h, scratch, line, number, request, call, size, out)
+            answer_call(h, scratch, number, request, call, size, buffer, out)
         }
         Request::NotRead => Answered::To {
             place: put_empty(out, h.at, number, request, Answer::LineNotRead),
@@ -235,15 +213,14 @@ pub fn answer(
 fn carry(
     h: Host,
     scratch: &mut [u8],
-    line: &[u8],
     number: u64,
     request: Request,
     call: Call,
     size: u32,
     out: &mut [u8],
 ) -> Host
-    requires { ⌜ (readLine (now line) ≡ Asked call size) × (request ≡ Asked call size) × (h .begun ≡ true) × (h .ready ≡ true) × (bufferFor (call .operation) size (now line) ≡ []) × (h .ready ≡ usable (h .state) (length (now scratch))) × (h .at + 600 ≤ length (now out)) ⌝ }
-    ensures { λ r. ⌜ Taken (lineTurn (sessionOf h (now (scratch .entry))) (now (line .entry))) number (now (out .entry)) (h .at) r (now (scratch .exit)) (now (out .exit)) ⌝ }
+    requires { ⌜ (request ≡ Asked call size) × (h .begun ≡ true) × (h .ready ≡ true) × (bufferFor (call .operation) size [] ≡ []) × (h .ready ≡ usable (h .state) (length (now scratch))) × (h .at + 600 ≤ length (now out)) ⌝ }
+    ensures { λ r. ⌜ Taken (requestTurn (sessionOf h (now (scratch .entry))) request []) number (now (out .entry)) (h .at) r (now (scratch .exit)) (now (out .exit)) ⌝ }
 {
     let s = h.state;
     let room = (s.frames as usize) * 4096;
@@ -295,47 +272,16 @@ fn frames(mut h: Host, scratch: &[u8], number: u64, count: u32, out: &mut [u8]) 
     say(h, number, request, Answer::Done { value: 0 }, out)
 }
 
-// A line that was not answered yet.
-pub fn change(
-    h: Host,
-    scratch: &mut [u8],
-    line: &[u8],
-    number: u64,
-    request: Request,
-    out: &mut [u8],
-) -> Host
-    requires { ⌜ (request ≡ readLine (now line)) × Waiting h (now line) request × (h .ready ≡ usable (h .state) (length (now scratch))) × (h .at + 600 ≤ length (now out)) ⌝ }
-    ensures { λ r. ⌜ Taken (lineTurn (sessionOf h (now (scratch .entry))) (now (line .entry))) number (now (out .entry)) (h .at) r (now (scratch .exit)) (now (out .exit)) ⌝ }
+// A request that was not answered yet.
+pub fn change(h: Host, scratch: &mut [u8], number: u64, request: Request, out: &mut [u8]) -> Host
+    requires { ⌜ Waiting h request × (h .ready ≡ usable (h .state) (length (now scratch))) × (h .at + 600 ≤ length (now out)) ⌝ }
+    ensures { λ r. ⌜ Taken (requestTurn (sessionOf h (now (scratch .entry))) request []) number (now (out .entry)) (h .at) r (now (scratch .exit)) (now (out .exit)) ⌝ }
 {
     match request {
         Request::Frames { frames: count } => frames(h, scratch, number, count, out),
         Request::Call { call, length: size } => {
-            carry(h, scratch, line, number, request, call, size, out)
+            carry(h, scratch, number, request, call, size, out)
         }
         Request::NotRead => say(h, number, request, Answer::LineNotRead, out),
-    }
-}
-
-// One line, without its newline.
-pub fn take_turn(
-    mut h: Host,
-    scratch: &mut [u8],
-    line: &[u8],
-    number: u64,
-    names: &[u64; 14],
-    shapes: &[u64; 14],
-    out: &mut [u8],
-) -> Host
-    requires { ⌜ (now names ≡ callNames) × (now shapes ≡ callShapes) × (h .ready ≡ usable (h .state) (length (now scratch))) × (h .at + 600 ≤ length (now out)) ⌝ }
-    ensures { λ r. ⌜ Taken (lineTurn (sessionOf h (now (scratch .entry))) (now (line .entry))) number (now (out .entry)) (h .at) r (now (scratch .exit)) (now (out .exit)) ⌝ }
-{
-    let request = lines::read(line, names, shapes);
-    let answered = answer(h, scratch, line, number, request, out);
-    match answered {
-        Answered::To { place } => {
-            h.at = place;
-            h
-        }
-        Answered::NotYet => change(h, scratch, line, number, request, out),
     }
 }

@@ -2,9 +2,10 @@
 use mathlib.Core.Path.{refl}
 use borrow.Author.Needs.{needs}
 use Rattle.lists.proofs.Rules.{tests}
-use Rattle.turns.proofs.Replied.{early-answered, unread-answered, line-asks}
+use Rattle.turns.proofs.Replied.{early-answered, unread-answered}
 use Rattle.turns.proofs.Carried.{unready-answered}
-use Rattle.turns.proofs.Waiting.{frames-wait, known-answered}
+use Rattle.turns.proofs.Filled.{prepared-known}
+use Rattle.turns.proofs.Waiting.{frames-wait, frames-bare, known-answered}
 use Rattle.turns.proofs.answer.Statement.{statement}
 use Rattle.turns.proofs.answer.Tie as tie
 
@@ -33,7 +34,7 @@ returns-2 : tie.Need-returns-2
 returns-2 c = search unready-answered
 
 answer-call-requires : tie.Need-answer-call-requires
-answer-call-requires c κs = search (needs, tests, line-asks)
+answer-call-requires c κs = search (needs, tests, prepared-known)
 
 enum-told-2 : tie.Need-enum-told-2
 enum-told-2 c = search needs
@@ -42,7 +43,7 @@ put-empty-requires-3 : tie.Need-put-empty-requires-3
 put-empty-requires-3 c κs = search needs
 
 returns-3 : tie.Need-returns-3
-returns-3 c = (search frames-wait, refl, refl)
+returns-3 c = (search frames-wait, search frames-bare, refl, refl)
 
 same-length-3 : tie.Need-same-length-3
 same-length-3 c = search needs
@@ -50,11 +51,14 @@ same-length-3 c = search needs
 same-length-4 : tie.Need-same-length-4
 same-length-4 c = search needs
 
+same-length-5 : tie.Need-same-length-5
+same-length-5 c = search needs
+
 returns-4 : tie.Need-returns-4
 returns-4 c = search known-answered
 
-same-length-5 : tie.Need-same-length-5
-same-length-5 c = search needs
+same-length-6 : tie.Need-same-length-6
+same-length-6 c = search needs
 
 returns-5 : tie.Need-returns-5
 returns-5 c = search unread-answered
@@ -77,6 +81,7 @@ answer-spec =
     returns-3
     same-length-3
     same-length-4
-    returns-4
     same-length-5
+    returns-4
+    same-length-6
     returns-5)

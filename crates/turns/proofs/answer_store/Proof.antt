@@ -5,9 +5,6 @@ use Rattle.turns.proofs.Carried.{store-taken}
 use Rattle.turns.proofs.answer_store.Statement.{statement}
 use Rattle.turns.proofs.answer_store.Tie as tie
 
-fill-requires : tie.Need-fill-requires
-fill-requires c κs = search needs
-
 cast-room : tie.Need-cast-room
 cast-room c = search needs
 
@@ -23,26 +20,8 @@ part-store-start c = search needs
 part-store-end : tie.Need-part-store-end
 part-store-end c = search usable-room
 
-sub-store-2 : tie.Need-sub-store-2
-sub-store-2 c = search needs
-
-part-store-start-2 : tie.Need-part-store-start-2
-part-store-start-2 c = search needs
-
-part-store-end-2 : tie.Need-part-store-end-2
-part-store-end-2 c = search needs
-
 store-requires : tie.Need-store-requires
 store-requires c κs = (search usable-sound, search usable-part)
-
-sub-put-line : tie.Need-sub-put-line
-sub-put-line c = search needs
-
-part-put-line-start : tie.Need-part-put-line-start
-part-put-line-start c = search needs
-
-part-put-line-end : tie.Need-part-put-line-end
-part-put-line-end c = search needs
 
 put-line-requires : tie.Need-put-line-requires
 put-line-requires c κs = search needs
@@ -60,19 +39,12 @@ pub answer-store-spec : {M : Type 1} → statement M
 answer-store-spec =
     tie.close
     (tie.spec
-    fill-requires
     cast-room
     mul-room
     sub-store
     part-store-start
     part-store-end
-    sub-store-2
-    part-store-start-2
-    part-store-end-2
     store-requires
-    sub-put-line
-    part-put-line-start
-    part-put-line-end
     put-line-requires
     same-length
     same-length-2

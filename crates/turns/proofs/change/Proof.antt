@@ -1,6 +1,6 @@
 -- `turns::change` meets its contract. Assumes nothing.
 use borrow.Author.Needs.{needs}
-use Rattle.turns.proofs.Replied.{frames-taken, unread-taken, line-asks}
+use Rattle.turns.proofs.Replied.{frames-taken, unread-taken, known-taken}
 use Rattle.turns.proofs.Waiting.{waiting-begun, waiting-ready, waiting-empty}
 use Rattle.turns.proofs.change.Statement.{statement}
 use Rattle.turns.proofs.change.Tie as tie
@@ -15,7 +15,7 @@ enum-known-request-2 : tie.Need-enum-known-request-2
 enum-known-request-2 c = search needs
 
 carry-requires : tie.Need-carry-requires
-carry-requires c κs = (search line-asks, search needs, search waiting-begun, search waiting-ready, search waiting-empty, search needs, search needs)
+carry-requires c κs = (search needs, search waiting-begun, search waiting-ready, search waiting-empty, search needs, search needs)
 
 enum-told : tie.Need-enum-told
 enum-told c = search needs
@@ -39,7 +39,7 @@ same-length-4 : tie.Need-same-length-4
 same-length-4 c = search needs
 
 returns-2 : tie.Need-returns-2
-returns-2 c = search needs
+returns-2 c = search known-taken
 
 same-length-5 : tie.Need-same-length-5
 same-length-5 c = search needs
