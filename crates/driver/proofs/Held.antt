@@ -3,7 +3,7 @@ use Prim.Native.Nat.{ℕ, min, _+_, _-_, _≤_}
 use mathlib.Core.List.{List, _++_, append-assoc}
 use mathlib.Core.Path.{_≡_, subst, sym, ap, _∙_}
 use native.Mathlib.Omega.{arith}
-use lib.ListN.{length, take, drop, length-append}
+use lib.ListN.{length, take, drop, length-take, length-append}
 use lib.Seq.{length-take-le, take-at, take-append-add}
 use Rattle.lists.specs.Bytes.{over}
 use Rattle.lists.proofs.Bytes.{over-lent}
@@ -13,15 +13,16 @@ use Rattle.driver.specs.Feed.{Feed}
 use Rattle.driver.specs.Fed.{feedOf, FedTo}
 
 -- more than is held can't be said to be held
-pub keep-least : (h : List ℕ) (have n : ℕ) → length h ≡ 601 → n ≡ min have 601 → take n h ≡ take have h
-keep-least h have n l e = take-least h have n (omega arith)
+pub held-least : (h : List ℕ) (have n : ℕ) → length h ≡ 601 → n ≡ min have 601 → n ≡ length (take have h)
+held-least h have n l e = omega (arith, length-take have h)
 
--- so it is the same session that is fed with k bytes held, where these are all that are there
-pub kept-fed : (s : Session) (h m input out out₁ : List ℕ) (k used written : ℕ) (f : Feed) → take k h ≡ take (s .have) h
+-- so it is the same session that is fed with as many as are held
+pub kept-fed : (s : Session) (h m input out out₁ : List ℕ) (k used written : ℕ) (f : Feed) → k ≡ length (take (s .have) h)
     → FedTo (feedOf (record { begun = s .begun; line = s .line; have = k; state = s .state }) h m) input out used written f out₁
     → FedTo (feedOf s h m) input out used written f out₁
 kept-fed s h m input out out₁ k used written f e t =
-    subst (λ (l : List ℕ). FedTo (record { session = record { begun = s .begun; tables = s .state; scratch = m }; line = s .line; held = l }) input out used written f out₁) e t
+    let same : take k h ≡ take (s .have) h = take-least h (s .have) k (omega (arith, length-take (s .have) h)) in
+    subst (λ (l : List ℕ). FedTo (record { session = record { begun = s .begun; tables = s .state; scratch = m }; line = s .line; held = l }) input out used written f out₁) same t
 
 -- as many bytes of the part p as there is room for are put behind the bytes held
 pub hold-part : (h p y : List ℕ) (have n : ℕ) → length h ≡ 601 → have ≤ 601 → n ≡ min (length p) (601 - have)

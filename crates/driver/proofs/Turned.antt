@@ -17,7 +17,8 @@ use Rattle.lines.proofs.Stored.{data-length, data-most}
 use Rattle.turns.specs.declared.Answered.{Answered}
 use Rattle.turns.specs.declared.Answered.the-variants.{To, NotYet}
 use Rattle.turns.specs.declared.Host.{Host}
-use Rattle.turns.specs.Taken.{sessionOf, dataIn, Prepared, withAt, Taken, AnsweredTo}
+use Rattle.turns.specs.Taken.{sessionOf, usable, dataIn, Prepared, withAt, Taken, AnsweredTo}
+use Rattle.turns.proofs.Filled.{prepared-long}
 use Rattle.turns.proofs.Waiting.{answered-taken, yet-taken}
 use Rattle.driver.specs.Feed.{Feed, newlineFrom}
 use Rattle.driver.specs.Fed.{Going}
@@ -35,6 +36,9 @@ module _ (l : List ℕ) (q : Request) (b : List ℕ) (e : q ≡ readLine l) (f :
 
   pub read-prepared : Prepared q b
   read-prepared = record { filled = f ∙ ap (over (replicate 257 0) 0) (sym read-data); fits = λ y. rw e (data-most l (rw e at y)) }
+
+  pub read-long : 257 ≡ length b
+  read-long = sym (prepared-long q b read-prepared)
 
   read-turn : (s : Session) → requestTurn s q (dataIn q b) ≡ lineTurn s l
   read-turn s = rw (read-data, e)
@@ -71,3 +75,12 @@ module _ (f : Feed) (h : Host) (input out out₁ out₂ m m₁ held held₁ buff
   pub turn-changed : (h₁ : Host) (m₂ out₃ : List ℕ) → x ≡ NotYet → Taken (requestTurn (sessionOf h m₁) q []) n out₂ (h .at) h₁ m₂ out₃
       → Going f input out (e + 1) (h₁ .at) (record { session = sessionOf h₁ m₂; line = n₁; held = [] }) out₃
   turn-changed h₁ m₂ out₃ z t = going-turn h₁ m₂ out₃ (yet-taken h q (dataIn q buffer) m n out₁ x m₁ out₂ a h₁ m₂ out₃ z t)
+
+-- the host knows whether check 1 holds, after it too
+pub answered-ready : (h : Host) (q : Request) (d m : List ℕ) (n place : ℕ) (out m₁ out₁ : List ℕ) (x : Answered) → AnsweredTo h q d m n out x m₁ out₁ → x ≡ To place
+    → h .ready ≡ usable (h .state) (length m₁)
+answered-ready h q d m n place out m₁ out₁ x a z = answered-taken h q d m n out x m₁ out₁ a place z .ready
+
+pub changed-ready : (s : Session) (q : Request) (n place : ℕ) (out m₁ out₁ : List ℕ) (h : Host) → Taken (requestTurn s q []) n out place h m₁ out₁
+    → h .ready ≡ usable (h .state) (length m₁)
+changed-ready s q n place out m₁ out₁ h t = t .ready

@@ -70,7 +70,7 @@ fn least(a: usize, b: usize) -> usize
 // How many bytes are held: no more than there is room for, whatever a session says.
 fn kept(held: &[u8], have: usize) -> usize
     requires { ⌜ length (now held) ≡ 601 ⌝ }
-    ensures { λ r. ⌜ (take r (now (held .entry)) ≡ take have (now (held .entry))) × (r ≤ 601) ⌝ }
+    ensures { λ r. ⌜ (r ≡ length (take have (now (held .entry)))) × (r ≤ 601) ⌝ }
 {
     least(have, 601)
 }
@@ -175,7 +175,7 @@ pub fn finish(session: Session, held: &[u8; 601], scratch: &mut [u8], out: &mut 
             written: 0,
         };
     }
-    if session.have == 0 {
+    if kept(held, session.have) == 0 {
         return Finished {
             done: true,
             written: 0,

@@ -13,9 +13,8 @@ use Rattle.lists.specs.Choice.{choose}
 use Rattle.lists.proofs.Choice.{yes!, no!, true-false, both-left, both-right}
 use Rattle.model.specs.declared.Request.{Request}
 use Rattle.model.specs.declared.Request.the-variants.{NotRead}
-use Rattle.model.specs.Lines.{fields, is, hexDigits, hexField, hexBytes, number, hex, fieldOf, Values, values, unread, readFields, Form, forms, at, sameBytes, makeBy, readBy, readAll, readLine, isStore, stores, dataOf}
+use Rattle.model.specs.Lines.{fields, is, hexDigits, hexField, hexBytes, number, hex, fieldOf, Values, values, unread, readFields, Form, forms, at, sameBytes, makeBy, readBy, readAll, readLine, isStore, stores, lengthOf, dataOf}
 use Rattle.lines.specs.Fields.{later}
-use Rattle.lines.specs.Stores.{lengthOf}
 use Rattle.lines.proofs.Cuts.{last-field}
 use Rattle.fields.proofs.Decoding.{bytes-length}
 use Rattle.fields.proofs.Spelling.{spelt-is}

@@ -14,14 +14,11 @@ kept-requires c κs = search needs
 returns-2 : tie.Need-returns-2
 returns-2 c = search (finish-none, arith)
 
-call-names-requires : tie.Need-call-names-requires
-call-names-requires c κs = search needs
+slice-aggregate-feed : tie.Need-slice-aggregate-feed
+slice-aggregate-feed c = search needs
 
-call-shapes-requires : tie.Need-call-shapes-requires
-call-shapes-requires c κs = search needs
-
-last-line-requires : tie.Need-last-line-requires
-last-line-requires c κs = search needs
+feed-requires : tie.Need-feed-requires
+feed-requires c κs = search needs
 
 same-length : tie.Need-same-length
 same-length c = search needs
@@ -39,9 +36,8 @@ finish-spec =
     returns
     kept-requires
     returns-2
-    call-names-requires
-    call-shapes-requires
-    last-line-requires
+    slice-aggregate-feed
+    feed-requires
     same-length
     same-length-2
     returns-3)

@@ -1,7 +1,7 @@
 -- `driver::kept` meets its contract. Assumes nothing.
 use native.Mathlib.Omega.{arith}
 use borrow.Author.Needs.{needs}
-use Rattle.driver.proofs.Held.{keep-least}
+use Rattle.driver.proofs.Held.{held-least}
 use Rattle.driver.proofs.kept.Statement.{statement}
 use Rattle.driver.proofs.kept.Tie as tie
 
@@ -9,7 +9,7 @@ least-requires : tie.Need-least-requires
 least-requires c κs = search needs
 
 returns : tie.Need-returns
-returns c = search (keep-least, arith)
+returns c = search (held-least, arith)
 
 pub kept-spec : {M : Type 1} → statement M
 kept-spec = tie.close (tie.spec least-requires returns)
