@@ -1,6 +1,7 @@
 // The entries of access lists: whether each names a space that its guest may use so, and whether those above a list are untouched.
 ghost use Prim.Native.Nat.{_<_};
 ghost use mathlib.Core.Path.{_≡_};
+ghost use Rattle.lists.specs.Choice.{both};
 ghost use Rattle.model.specs.SoundTest.{untouchedTest};
 ghost use Rattle.listed.specs.Standings.{rightRank, validWith, standingWith, standingsWith, aboveTest};
 use model::Entry;
@@ -39,8 +40,18 @@ fn standing_ok(powers: &[u8; 256], k: usize, x: Standing) -> bool
     }
 }
 
-pub fn standings_ok(powers: &[u8; 256], entries: [Entry; 240]) -> bool
-    ensures { λ r. ⌜ r ≡ standingsWith (now (powers .entry)) entries ⌝ }
+fn untouched(e: Entry) -> bool
+    ensures { λ r. ⌜ r ≡ untouchedTest e ⌝ }
+{
+    if !entries::is_unused(e) {
+        return false;
+    }
+    e.sequence == 0
+}
+
+// Two passes in one function, since every call that is handed the entries copies them.
+pub fn entries_ok(powers: &[u8; 256], guests: [Guest; 8], entries: [Entry; 240]) -> bool
+    ensures { λ r. ⌜ r ≡ both (standingsWith (now (powers .entry)) entries) (aboveTest guests entries) ⌝ }
 {
     for i in 0..30usize {
         for k in 0..8usize {
@@ -51,21 +62,6 @@ pub fn standings_ok(powers: &[u8; 256], entries: [Entry; 240]) -> bool
             }
         }
     }
-    true
-}
-
-fn untouched(e: Entry) -> bool
-    ensures { λ r. ⌜ r ≡ untouchedTest e ⌝ }
-{
-    if !entries::is_unused(e) {
-        return false;
-    }
-    e.sequence == 0
-}
-
-pub fn above_ok(guests: [Guest; 8], entries: [Entry; 240]) -> bool
-    ensures { λ r. ⌜ r ≡ aboveTest guests entries ⌝ }
-{
     for k in 0..8usize {
         let g = guests[k];
         let l = g.list as usize;

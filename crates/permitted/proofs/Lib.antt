@@ -1,4 +1,5 @@
 pub mod Loops
 pub mod Tables
 pub mod Same
+pub mod Counting
 pub mod Permits

@@ -2,17 +2,16 @@
 use Prim.Native.Nat.{ℕ, _+_, _-_, _*_, _/_, _%_, _≤_, _<_}
 use mathlib.Core.Bool.{Bool, true, false, not}
 use mathlib.Core.List.{List}
-use mathlib.Core.Logic.{inl, inr}
+use mathlib.Core.Logic.{_≢_, inl, inr}
 use mathlib.Core.Path.{_≡_, refl, sym, ap, ap₂, _∙_}
 use native.Mathlib.Omega.{arith}
 use lib.Dec.{leb, eqb}
-use lib.ListN.{length}
+use lib.ListN.{length, getD}
 use borrow.Author.Tests.{eq-eqb, ne-eqb, le-leb}
 use Rattle.lists.specs.Choice.{choose, both, implies}
 use Rattle.lists.proofs.Choice.{true-false, both-yes, both-no, both-intro, yes!, no! }
-use Rattle.lists.proofs.Decides.{d-eq}
+use Rattle.lists.proofs.Decides.{d-eq, d-le, d-every}
 use Rattle.lists.proofs.Places.{every-same}
-use Rattle.lists.proofs.Rules.{test-no, test-yes}
 use Rattle.model.specs.declared.Grant.{Grant}
 use Rattle.model.specs.declared.Grant.the-variants.{Nothing, Reading, Writing}
 use Rattle.model.specs.declared.Guest.{Guest}
@@ -25,7 +24,7 @@ use Rattle.model.specs.SoundTest.{permitTest, permitsTest}
 use Rattle.model.specs.Tables.{spaceAt, live, guestAt, grantAt}
 use Rattle.model.proofs.Searches.{live-of}
 use Rattle.permitted.proofs.Same.{same-by}
-use Rattle.permitted.specs.Columns.{Filled, guestOn, Owners, ownerIn, OwnersOf, numberAt, mayAt, rowsWith, permitWith, permitsWith, powerAt, Powers, Permits}
+use Rattle.permitted.specs.Columns.{Filled, guestOn, Owners, ownerIn, OwnersOf, numberAt, mayAt, limitAt, Excess, permitWith, permitsWith, powerAt, Powers, Permits}
 use Rattle.permitted.specs.Elements.{Owned, OwnerIs, grantNumber, mayBe}
 
 -- a permit's number against what may be permitted
@@ -98,16 +97,33 @@ module _ (gs : List Guest) (ss : List Space) (ps : List Permit) (ts : List ℕ) 
   permits-is len = every-same _ _ 32 (λ u l. every-same _ _ 8 (λ k b. within u k l b)) ∙ sym (both-yes _ (eq-eqb (length ps) 256 len))
 
 -- what the pass over the permits leaves
-module _ (gs : List Guest) (ps : List Permit) (ts ns ms : List ℕ) (numbers : Filled ns (numberAt ps) 256) where
-  pub rows-is : Owners ts → Filled ms (mayAt gs) 72 → rowsWith ns ms ts ≡ permitsWith gs ps ts
-  unfolding rowsWith permitsWith
-  rows-is small may = every-same _ _ 32 (λ u l. every-same _ _ 8 (λ k b. ap₂ (λ x y. leb x y) (numbers .at (u * 8 + k) (omega arith)) (may .at (ownerIn ts u * 8 + k) (omega (arith, small .below u l)))))
+module _ (gs : List Guest) (ps : List Permit) (ts ns ms ls : List ℕ) (r : ℕ) (numbers : Filled ns (numberAt ps) 256) (small : Owners ts) (may : Filled ms (mayAt gs) 72) (limits : Filled ls (limitAt ms ts) 256) (over : Excess ns ls 256 r) where
+  limit-is : (u k : ℕ) → u < 32 → k < 8 → getD ls (u * 8 + k) 0 ≡ mayAt gs (ownerIn ts u * 8 + k)
+  limit-is u k l b =
+      let p : (u * 8 + k) / 8 ≡ u = omega arith in
+      let q : (u * 8 + k) % 8 ≡ k = omega arith in
+      limits .at (u * 8 + k) (omega arith)
+      ∙ ap₂ (λ v j. getD ms (ownerIn ts v * 8 + j) 0) p q
+      ∙ may .at (ownerIn ts u * 8 + k) (omega (arith, small .below u l))
 
-  pub permits-stop : (r : Bool) → Owners ts → Filled ms (mayAt gs) 72 → r ≡ rowsWith ns ms ts → not r ≡ true → Permits false gs ps ts ns
-  permits-stop r small may e t = record { test = sym (test-no r _ (e ∙ rows-is small may) t); table = λ z. true-false z refl }
+  excess-is : eqb r 0 ≡ permitsWith gs ps ts
+  unfolding permitsWith
+  excess-is = same-by (d-eq r 0) (d-every 32 (λ u. d-every 8 (λ k. d-le (numberAt ps (u * 8 + k)) (mayAt gs (ownerIn ts u * 8 + k))))) to of
+    where
+      to : r ≡ 0 → (u : ℕ) → u < 32 → (k : ℕ) → k < 8 → numberAt ps (u * 8 + k) ≤ mayAt gs (ownerIn ts u * 8 + k)
+      to z u l k b = omega (arith, over .none z (u * 8 + k) (omega arith), numbers .at (u * 8 + k) (omega arith), limit-is u k l b)
 
-  pub permits-done : (r : Bool) (ws : List ℕ) → Owners ts → Filled ms (mayAt gs) 72 → r ≡ rowsWith ns ms ts → not r ≡ false → Powers ts ns ws → Permits true gs ps ts ws
-  permits-done r ws small may e t powers = record {
-    test = sym (test-yes r _ (e ∙ rows-is small may) t);
+      of : ((u : ℕ) → u < 32 → (k : ℕ) → k < 8 → numberAt ps (u * 8 + k) ≤ mayAt gs (ownerIn ts u * 8 + k)) → r ≡ 0
+      of h = over .zero (λ j b. let q : j / 8 * 8 + j % 8 ≡ j = omega arith in rw q at (cell (j / 8) (j % 8) (omega arith) (omega arith)))
+        where
+          cell : (u k : ℕ) → u < 32 → k < 8 → getD ns (u * 8 + k) 0 ≤ getD ls (u * 8 + k) 0
+          cell u k l b = omega (arith, h u l k b, numbers .at (u * 8 + k) (omega arith), limit-is u k l b)
+
+  pub permits-stop : r ≢ 0 → Permits false gs ps ts ns
+  permits-stop n = record { test = sym (ne-eqb r 0 n) ∙ excess-is; table = λ z. true-false z refl }
+
+  pub permits-done : (ws : List ℕ) → r ≡ 0 → Powers ts ns ws → Permits true gs ps ts ws
+  permits-done ws z powers = record {
+    test = sym (eq-eqb r 0 z) ∙ excess-is;
     table = λ _. record { at = λ u k l b. powers .at u k l b ∙ ap (powerAt ts u k) (numbers .at (u * 8 + k) (omega arith)) };
   }

@@ -11,7 +11,7 @@ use borrow.Author.Tests.{eq-eqb, ne-eqb}
 use Rattle.lists.proofs.Choice.{yes!, no! }
 use Rattle.lists.proofs.Maps.{at-set}
 use Rattle.model.specs.declared.Guest.{Guest}
-use Rattle.permitted.specs.Columns.{Filled, guestOn, ownerIn, mayAt, powerAt, Powers}
+use Rattle.permitted.specs.Columns.{Filled, guestOn, ownerIn, mayAt, limitAt, powerAt, Powers}
 use Rattle.permitted.specs.Elements.{placeOf, mayBe, powerWith}
 
 -- a table of n places, of which the first i are filled
@@ -66,6 +66,25 @@ module _ (gs : List Guest) where
 
     pub may-row : 8 ≤ k → k ≤ 8 → Filling t (mayAt gs) 128 ((i + 1) * 8 + k) → Filling t (mayAt gs) 128 ((i + 1 + 1) * 8)
     may-row b d h = let q : (i + 1) * 8 + k ≡ (i + 1 + 1) * 8 = omega arith in rw q at h
+
+-- the limits, slot by slot
+module _ (ms ts : List ℕ) (t : List ℕ) (u : ℕ) where
+  pub limit-enter : Filling t (limitAt ms ts) 256 (u * 8) → Filling t (limitAt ms ts) 256 (u * 8 + 0)
+  limit-enter h = let q : u * 8 ≡ u * 8 + 0 = omega arith in rw q at h
+
+  pub limit-end : 32 ≤ u → Filling t (limitAt ms ts) 256 (u * 8) → Filled t (limitAt ms ts) 256
+  limit-end l h = fill-end t (limitAt ms ts) 256 (u * 8) 256 (omega arith) h
+
+  module _ (k : ℕ) (l : u < 32) where
+    pub limit-go : (o : ℕ) → k < 8 → o ≡ ownerIn ts u → Filling t (limitAt ms ts) 256 (u * 8 + k) → Filling (set t (u * 8 + k) (getD ms (o * 8 + k) 0)) (limitAt ms ts) 256 (u * 8 + (k + 1))
+    limit-go o b e h =
+        let p : u ≡ (u * 8 + k) / 8 = omega arith in
+        let r : k ≡ (u * 8 + k) % 8 = omega arith in
+        let q : u * 8 + k + 1 ≡ u * 8 + (k + 1) = omega arith in
+        rw q at (fill-go t (limitAt ms ts) 256 (u * 8 + k) (getD ms (o * 8 + k) 0) (omega arith) (ap (λ x. getD ms (x * 8 + k) 0) e ∙ ap₂ (λ v j. getD ms (ownerIn ts v * 8 + j) 0) p r) h)
+
+    pub limit-row : 8 ≤ k → k ≤ 8 → Filling t (limitAt ms ts) 256 (u * 8 + k) → Filling t (limitAt ms ts) 256 ((u + 1) * 8)
+    limit-row b d h = let q : u * 8 + k ≡ (u + 1) * 8 = omega arith in rw q at h
 
 -- the rows of the slots below u have their powers, the others their permits
 pub record Powered (ts ns ws : List ℕ) (u : ℕ) : Type 0 where

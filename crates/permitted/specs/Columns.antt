@@ -41,9 +41,15 @@ numberAt ps k = grantNumber (getD ps k noPermit .grant)
 abbrev pub mayAt : List Guest → (place : ℕ) → ℕ
 mayAt gs j = choose (eqb (j / 8) 0) 0 (mayBe (guestOn gs (j / 8 - 1)) (guestOn gs (j % 8)) (j / 8 - 1) (j % 8))
 
--- a table of numbers against a table of what may be permitted, slot by slot
-unfoldable pub rowsWith : (numbers may tags : List ℕ) → Bool
-rowsWith ns ms ts = every (λ u. every (λ k. leb (getD ns (u * 8 + k) 0) (getD ms (ownerIn ts u * 8 + k) 0)) 8) 32
+-- the same at the place of each permit, slot by slot, by a table of it
+abbrev pub limitAt : (may tags : List ℕ) → (place : ℕ) → ℕ
+limitAt ms ts j = getD ms (ownerIn ts (j / 8) * 8 + j % 8) 0
+
+-- how many of the first n numbers are over their limits: at most n, and 0 exactly where none is
+pub record Excess (numbers limits : List ℕ) (n r : ℕ) : Type 0 where
+  pub most : r ≤ n
+  pub none : r ≡ 0 → (k : ℕ) → k < n → getD numbers k 0 ≤ getD limits k 0
+  pub zero : ((k : ℕ) → k < n → getD numbers k 0 ≤ getD limits k 0) → r ≡ 0
 
 abbrev pub permitWith : List Guest → List Permit → (tags : List ℕ) → (slot place : ℕ) → Bool
 permitWith gs ps ts u k = leb (numberAt ps (u * 8 + k)) (mayAt gs (ownerIn ts u * 8 + k))

@@ -3,7 +3,7 @@ use Prim.Native.Nat.{ℕ, _+_, _≤_, _%_}
 use mathlib.Core.Bool.{not}
 use mathlib.Core.Logic.{_⊎_}
 use mathlib.Core.Path.{_≡_}
-use lib.Dec.{eqb}
+use lib.Dec.{eqb, ltb}
 use Rattle.lists.specs.Choice.{choose, both}
 use Rattle.model.specs.declared.Grant.{Grant}
 use Rattle.model.specs.declared.Grant.the-variants.{Nothing, Reading, Writing}
@@ -34,6 +34,10 @@ grantNumber Writing = 2
 -- what guest k + 1 may be permitted of the spaces of an owner
 unfoldable pub mayBe : (owner : Guest) → (guest : Guest) → (ownerPlace place : ℕ) → ℕ
 mayBe o h i k = choose (both (not (eqb i k)) (both (o .share) (h .enrolled))) 2 0
+
+-- 1 for a number over its limit
+unfoldable pub overOf : (number limit : ℕ) → ℕ
+overOf n m = choose (ltb m n) 1 0
 
 -- the owner of a live space may write
 unfoldable pub powerWith : (owner number : ℕ) → ℕ

@@ -1,12 +1,10 @@
 // The permits of a state: whether each may stand, and what each guest may do with each slot. Owners come in tags: the owner of a
 // slot is its tag's remainder by 16, and 0 for nobody.
-ghost use Prim.Native.Nat.{_+_, _*_, _≤_, _<_};
+ghost use Prim.Native.Nat.{_≤_, _<_};
 ghost use mathlib.Core.Path.{_≡_};
-ghost use lib.Dec.{leb};
-ghost use lib.ListN.{length, getD};
-ghost use Rattle.lists.specs.Places.{every};
-ghost use Rattle.permitted.specs.Elements.{placeOf, grantNumber, mayBe, powerWith};
-ghost use Rattle.permitted.specs.Columns.{Filled, Owners, numberAt, mayAt, rowsWith, Powers, Permits};
+ghost use lib.ListN.{length};
+ghost use Rattle.permitted.specs.Elements.{placeOf, grantNumber, mayBe, overOf, powerWith};
+ghost use Rattle.permitted.specs.Columns.{Filled, Owners, numberAt, mayAt, limitAt, Excess, Powers, Permits};
 use model::Grant;
 use model::Guest;
 use model::Permit;
@@ -68,28 +66,38 @@ fn may_table(guests: [Guest; 8]) -> [u8; 128]
     t
 }
 
-fn row_ok<'a>(numbers: &'a [u8; 256], may: &'a [u8; 128], u: usize, o: usize) -> bool
-    requires { ⌜ (u < 32) × (o < 16) ⌝ }
-    ensures { λ r. ⌜ r ≡ every (λ k. leb (getD (now (numbers .entry)) (u * 8 + k) 0) (getD (now (may .entry)) (o * 8 + k) 0)) 8 ⌝ }
+// What may be permitted of each slot: the row of its owner.
+fn limits_of<'a>(may: &'a [u8; 128], tags: &'a [u8; 32]) -> [u8; 256]
+    ensures { λ r. ⌜ Filled r (limitAt (now (may .entry)) (now (tags .entry))) 256 ⌝ }
 {
-    for k in 0..8usize {
-        if may[o * 8 + k] < numbers[u * 8 + k] {
-            return false;
-        }
-    }
-    true
-}
-
-fn rows_ok<'a>(numbers: &'a [u8; 256], may: &'a [u8; 128], tags: &'a [u8; 32]) -> bool
-    ensures { λ r. ⌜ r ≡ rowsWith (now (numbers .entry)) (now (may .entry)) (now (tags .entry)) ⌝ }
-{
+    let mut limits = [0u8; 256];
     for u in 0..32usize {
         let o = (tags[u] % 16) as usize;
-        if !row_ok(numbers, may, u, o) {
-            return false;
+        for k in 0..8usize {
+            limits[u * 8 + k] = may[o * 8 + k];
         }
     }
-    true
+    limits
+}
+
+fn over(number: u8, limit: u8) -> u16
+    ensures { λ r. ⌜ r ≡ overOf number limit ⌝ }
+{
+    if limit < number {
+        return 1;
+    }
+    0
+}
+
+// How many numbers are over their limits. They are counted to the end, so that the compiler takes many at a time.
+fn excess_of<'a>(numbers: &'a [u8; 256], limits: &'a [u8; 256]) -> u16
+    ensures { λ r. ⌜ Excess (now (numbers .entry)) (now (limits .entry)) 256 r ⌝ }
+{
+    let mut n = 0u16;
+    for k in 0..256usize {
+        n += over(numbers[k], limits[k]);
+    }
+    n
 }
 
 fn power(o: u8, number: u8) -> u8
@@ -126,7 +134,8 @@ pub fn permits_ok(
 {
     numbers_into(permits, powers);
     let may = may_table(guests);
-    if !rows_ok(powers, &may, tags) {
+    let limits = limits_of(&may, tags);
+    if excess_of(powers, &limits) != 0 {
         return false;
     }
     owners_into(tags, powers);

@@ -112,21 +112,16 @@ module _ (s : State) (r : Bool) where
     pub permits-yes : not r ≡ false → PermitsPassed s ws
     permits-yes t = record { before = p; permits = test-yes r _ permits-said t; ts = ts; owners = owners-said; powers = said .table (not-false r t) }
 
-module _ (s : State) (r : Bool) (ws : List ℕ) (e : r ≡ standingsWith ws (s .entries)) (p : PermitsPassed s ws) where
-  last-is : both (standingsWith ws (s .entries)) (aboveTest (s .guests) (s .entries)) ≡ sound s
-  unfolding sound
-  last-is =
-      let q = p .before .before .before in
-      let h = q .before .held in
-      entries-is (s .guests) (s .spaces) (s .permits) (s .entries) ws (h .sequence)
-      (standing-is (s .guests) (s .spaces) (s .permits) (p .ts) ws (p .owners) (p .permits) (p .powers)) (h .entries)
-      ∙ sym (both-yes _ (q .before .head) ∙ both-yes _ (p .before .before .spaces) ∙ both-yes _ (p .before .guests) ∙ both-yes _ (p .permits))
-
-  pub standings-no : not r ≡ true → false ≡ sound s
-  standings-no t = sym (sym last-is ∙ both-no _ (test-no r _ e t))
-
-  pub above-is : (x : Bool) → not r ≡ false → x ≡ aboveTest (s .guests) (s .entries) → x ≡ sound s
-  above-is x t d = d ∙ sym (both-yes _ (test-yes r _ e t)) ∙ last-is
+-- the entries say the rest
+pub entries-say : (s : State) (r : Bool) (ws : List ℕ) → PermitsPassed s ws → r ≡ both (standingsWith ws (s .entries)) (aboveTest (s .guests) (s .entries)) → r ≡ sound s
+unfolding sound
+entries-say s r ws p e =
+    let q = p .before .before .before in
+    let h = q .before .held in
+    e
+    ∙ entries-is (s .guests) (s .spaces) (s .permits) (s .entries) ws (h .sequence)
+    (standing-is (s .guests) (s .spaces) (s .permits) (p .ts) ws (p .owners) (p .permits) (p .powers)) (h .entries)
+    ∙ sym (both-yes _ (q .before .head) ∙ both-yes _ (p .before .before .spaces) ∙ both-yes _ (p .before .guests) ∙ both-yes _ (p .permits))
 
 -- for search: what passed, test by test
 pub ruleset passed = (head-yes, slots-yes, tags-yes, apart-yes, guests-yes, permits-yes)

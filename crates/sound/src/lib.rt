@@ -47,8 +47,5 @@ pub fn is_sound(s: State) -> bool
         return false;
     }
     let entries = s.entries;
-    if !listed::standings_ok(&powers, entries) {
-        return false;
-    }
-    listed::above_ok(guests, entries)
+    listed::entries_ok(&powers, guests, entries)
 }

@@ -10,8 +10,11 @@ numbers-into-requires c κs = search needs
 may-table-requires : tie.Need-may-table-requires
 may-table-requires c κs = search needs
 
-rows-ok-requires : tie.Need-rows-ok-requires
-rows-ok-requires c κs = search needs
+limits-of-requires : tie.Need-limits-of-requires
+limits-of-requires c κs = search needs
+
+excess-of-requires : tie.Need-excess-of-requires
+excess-of-requires c κs = search needs
 
 returns : tie.Need-returns
 returns c = search permits-stop
@@ -28,7 +31,8 @@ permits-ok-spec =
     (tie.spec
     numbers-into-requires
     may-table-requires
-    rows-ok-requires
+    limits-of-requires
+    excess-of-requires
     returns
     owners-into-requires
     returns-2)

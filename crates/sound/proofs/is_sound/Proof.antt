@@ -1,6 +1,6 @@
 -- `sound::is_sound` meets its contract. Assumes nothing.
 use Rattle.sound.proofs.Held.{held}
-use Rattle.sound.proofs.Whole.{head-no, slots-no, apart-no, guests-no, permits-no, standings-no, above-is, owners-yes, passed}
+use Rattle.sound.proofs.Whole.{head-no, slots-no, apart-no, guests-no, permits-no, entries-say, owners-yes, passed}
 use Rattle.sound.specs.Held.{Held}
 use borrow.Author.Needs.{needs}
 use Rattle.sound.proofs.is_sound.Statement.{statement}
@@ -42,17 +42,11 @@ permits-ok-requires c κs = search (owners-yes, needs)
 returns-5 : tie.Need-returns-5
 returns-5 c = search (permits-no, passed, held-at) depth 10
 
-standings-ok-requires : tie.Need-standings-ok-requires
-standings-ok-requires c κs = search needs
+entries-ok-requires : tie.Need-entries-ok-requires
+entries-ok-requires c κs = search needs
 
 returns-6 : tie.Need-returns-6
-returns-6 c = search (standings-no, passed, held-at) depth 10
-
-above-ok-requires : tie.Need-above-ok-requires
-above-ok-requires c κs = search needs
-
-returns-7 : tie.Need-returns-7
-returns-7 c = search (above-is, passed, held-at) depth 10
+returns-6 c = search (entries-say, passed, held-at) depth 10
 
 pub is-sound-spec : {M : Type 1} → statement M
 is-sound-spec =
@@ -69,7 +63,5 @@ is-sound-spec =
     returns-4
     permits-ok-requires
     returns-5
-    standings-ok-requires
-    returns-6
-    above-ok-requires
-    returns-7)
+    entries-ok-requires
+    returns-6)
