@@ -1,12 +1,12 @@
 -- The session of the model (Session) as a fold over input bytes, so that input may come in pieces. It is proved equal to the
 -- session by lines (proofs/Pieces).
-use Prim.Native.Nat.{ℕ, _-_}
+use Prim.Native.Nat.{ℕ}
 use mathlib.Core.List.{List, [], _∷_, _++_}
 use lib.Dec.{eqb}
-use lib.ListN.{length, getD, take}
+use lib.ListN.{length, take}
 use Rattle.lists.specs.Choice.{choose}
-use Rattle.lists.specs.Places.{lowestFrom}
 use Rattle.model.specs.Session.{Session, lineTurn, newSession, lineText, nextLine}
+use Rattle.moves.specs.Found.{byteFrom}
 
 -- Where a session stands between two bytes: the session, the number of the next line, and the line so far. Of a line longer
 -- than 600 bytes 601 are kept: it is not read, whatever follows.
@@ -59,4 +59,4 @@ joined (p ∷ ps) = p ++ joined ps
 
 -- where the line ends: the place of the first newline of l from i on, and the length of l where there is none
 abbrev pub newlineFrom : List ℕ → ℕ → ℕ
-newlineFrom l i = lowestFrom (λ k. eqb (getD l k 0) 10) i (length l - i)
+newlineFrom l i = byteFrom 10 l i

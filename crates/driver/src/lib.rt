@@ -48,14 +48,7 @@ fn line_end(input: &[u8], from: usize) -> usize
     requires { ⌜ from ≤ length (now input) ⌝ }
     ensures { λ r. ⌜ (r ≡ newlineFrom (now (input .entry)) from) × (from ≤ r) × (r ≤ length (now (input .entry))) ⌝ }
 {
-    let mut i = from;
-    while i < input.len() {
-        if input[i] == 10 {
-            return i;
-        }
-        i += 1;
-    }
-    i
+    moves::find(input, from, 10)
 }
 
 fn least(a: usize, b: usize) -> usize

@@ -1,14 +1,12 @@
 -- Where the fields of a line stand, as the code finds them.
-use Prim.Native.Nat.{ℕ, _-_}
+use Prim.Native.Nat.{ℕ}
 use mathlib.Core.List.{List, [], _∷_}
-use lib.Dec.{eqb}
-use lib.ListN.{length, getD}
-use Rattle.lists.specs.Places.{lowestFrom}
 use Rattle.model.specs.Lines.{fields}
+use Rattle.moves.specs.Found.{byteFrom}
 
 -- the place of the first tab of l from i on, and the length of l where there is none
 abbrev pub tabFrom : List ℕ → ℕ → ℕ
-tabFrom l i = lowestFrom (λ k. eqb (getD l k 0) 9) i (length l - i)
+tabFrom l i = byteFrom 9 l i
 
 -- the fields that follow a field, given what is left of the line at its end: nothing, or a tab and what follows it
 unfoldable pub following : List ℕ → List (List ℕ)

@@ -20,14 +20,7 @@ fn field_end(line: &[u8], from: usize) -> usize
     requires { ⌜ from ≤ length (now line) ⌝ }
     ensures { λ r. ⌜ (r ≡ tabFrom (now (line .entry)) from) × (from ≤ r) × (r ≤ length (now (line .entry))) ⌝ }
 {
-    let mut i = from;
-    while i < line.len() {
-        if line[i] == 9 {
-            return i;
-        }
-        i += 1;
-    }
-    i
+    moves::find(line, from, 9)
 }
 
 // The calls' names, each as one number. A table that is indexed in a loop is built before it: a constant that is indexed is

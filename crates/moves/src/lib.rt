@@ -1,8 +1,24 @@
-// Bytes moved between slices.
+// Bytes found in a slice and moved between slices.
 ghost use Prim.Native.Nat.{_≤_};
 ghost use mathlib.Core.Path.{_≡_};
 ghost use lib.ListN.{length, replicate};
 ghost use Rattle.lists.specs.Bytes.{over, part};
+ghost use Rattle.moves.specs.Found.{byteFrom};
+
+// The place of the first byte `b` at or after `from`, or the length.
+pub fn find(bytes: &[u8], from: usize, b: u8) -> usize
+    requires { ⌜ from ≤ length (now bytes) ⌝ }
+    ensures { λ r. ⌜ (r ≡ byteFrom b (now (bytes .entry)) from) × (from ≤ r) × (r ≤ length (now (bytes .entry))) ⌝ }
+{
+    let mut i = from;
+    while i < bytes.len() {
+        if bytes[i] == b {
+            return i;
+        }
+        i += 1;
+    }
+    i
+}
 
 // The bytes of src replace the first bytes of dst.
 pub fn put(dst: &mut [u8], src: &[u8])

@@ -1,19 +1,19 @@
--- `driver::line_end` meets its contract. Assumes nothing.
+-- `moves::find` meets its contract.
 use Prim.Native.Nat.{_-_, _≤_}
 use mathlib.Core.Path.{_≡_, refl}
 use native.Mathlib.Omega.{arith}
 use lib.ListN.{length}
 use Rattle.lists.proofs.Rules.{loops}
-use Rattle.driver.specs.Feed.{newlineFrom}
+use Rattle.moves.specs.Found.{byteFrom}
 use borrow.Author.Needs.{needs}
-use Rattle.driver.proofs.line_end.Statement.{statement}
-use Rattle.driver.proofs.line_end.Tie as tie
+use Rattle.moves.proofs.find.Statement.{statement}
+use Rattle.moves.proofs.find.Tie as tie
 
 abbrev Inv-loop : tie.InvT-loop
-Inv-loop input from i₀ i = (from ≤ i) × (i ≤ length input) × (newlineFrom input from ≡ newlineFrom input i)
+Inv-loop bytes from b i₀ i = (from ≤ i) × (i ≤ length bytes) × (byteFrom b bytes from ≡ byteFrom b bytes i)
 
 abbrev μ-loop : tie.MeasureT-loop
-μ-loop input from i₀ i = length input - i
+μ-loop bytes from b i₀ i = length bytes - i
 
 loop-holds : tie.Need-loop-holds Inv-loop μ-loop
 loop-holds c = (omega arith, omega arith, refl)
@@ -36,8 +36,8 @@ loop-again c = search loops
 returns-2 : tie.Need-returns-2 Inv-loop μ-loop
 returns-2 c = search loops
 
-pub line-end-spec : {M : Type 1} → statement M
-line-end-spec =
+pub find-spec : {M : Type 1} → statement M
+find-spec =
     tie.close
     (tie.spec
     Inv-loop

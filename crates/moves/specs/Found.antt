@@ -1,0 +1,10 @@
+-- Where a byte stands.
+use Prim.Native.Nat.{ℕ, _-_}
+use mathlib.Core.List.{List}
+use lib.Dec.{eqb}
+use lib.ListN.{length, getD}
+use Rattle.lists.specs.Places.{lowestFrom}
+
+-- the place of the first byte b of l from i on, and the length of l where there is none
+abbrev pub byteFrom : (b : ℕ) → List ℕ → ℕ → ℕ
+byteFrom b l i = lowestFrom (λ k. eqb (getD l k 0) b) i (length l - i)
