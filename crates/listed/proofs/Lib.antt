@@ -1,3 +1,4 @@
+pub mod Loops
 pub mod Rules
 pub mod Valid
 pub mod Passes

@@ -1,4 +1,3 @@
-pub mod Loops
 pub mod Tables
 pub mod Same
 pub mod Counting

@@ -15,7 +15,7 @@ use Rattle.model.specs.SoundTest.{guestTest, guestsTest}
 use Rattle.model.specs.Tables.{cpuAt}
 use Rattle.lists.proofs.Rules.{test-no, test-yes}
 use Rattle.permitted.specs.Columns.{Filled, guestOn}
-use Rattle.permitted.proofs.Loops.{Left, left-every, left-go, left-stop, left-done}
+use Rattle.listed.proofs.Loops.{Left, left-every, left-go, left-stop, left-done}
 use Rattle.sound.proofs.Tags.{data-count, primary-count}
 use Rattle.sound.specs.Columns.{tagAt, slotsTest, tagCount, guestsWith}
 use Rattle.sound.specs.Elements.{guestWith}

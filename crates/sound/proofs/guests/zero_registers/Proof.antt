@@ -4,7 +4,7 @@ use lib.Dec.{eqb}
 use lib.ListN.{getD}
 use borrow.Author.Needs.{needs}
 use Rattle.lists.specs.Places.{every}
-use Rattle.permitted.proofs.Loops.{Left, lefts}
+use Rattle.listed.proofs.Loops.{Left, lefts}
 use Rattle.sound.proofs.guests.zero_registers.Statement.{statement}
 use Rattle.sound.proofs.guests.zero_registers.Tie as tie
 
