@@ -1,4 +1,5 @@
 // FETCH and STORE, for callers that hold a sound state: from a register, through its token, to the bytes of a space.
+// Each makes its checks itself: a function that made them for both would have the state copied to it.
 ghost use Prim.Native.Nat.{_*_};
 ghost use mathlib.Core.Bool.{true};
 ghost use mathlib.Core.Path.{_≡_};
