@@ -16,13 +16,18 @@ use Rattle.driver.specs.Fed.{feedOf, FedTo}
 pub held-least : (h : List ℕ) (have n : ℕ) → length h ≡ 601 → n ≡ min have 601 → n ≡ length (take have h)
 held-least h have n l e = omega (arith, length-take have h)
 
--- so it is the same session that is fed with as many as are held
+-- so a session that holds as many as are held is the same
+abbrev pub within : Session → ℕ → Session
+within s k = record { begun = s .begun; line = s .line; have = k; state = s .state }
+
+pub kept-same : (s : Session) (h m : List ℕ) (k : ℕ) → k ≡ length (take (s .have) h) → feedOf (within s k) h m ≡ feedOf s h m
+kept-same s h m k e =
+    ap (λ (l : List ℕ). record { session = record { begun = s .begun; tables = s .state; scratch = m }; line = s .line; held = l })
+    (take-least h (s .have) k (omega (arith, length-take (s .have) h)))
+
 pub kept-fed : (s : Session) (h m input out out₁ : List ℕ) (k used written : ℕ) (f : Feed) → k ≡ length (take (s .have) h)
-    → FedTo (feedOf (record { begun = s .begun; line = s .line; have = k; state = s .state }) h m) input out used written f out₁
-    → FedTo (feedOf s h m) input out used written f out₁
-kept-fed s h m input out out₁ k used written f e t =
-    let same : take k h ≡ take (s .have) h = take-least h (s .have) k (omega (arith, length-take (s .have) h)) in
-    subst (λ (l : List ℕ). FedTo (record { session = record { begun = s .begun; tables = s .state; scratch = m }; line = s .line; held = l }) input out used written f out₁) same t
+    → FedTo (feedOf (within s k) h m) input out used written f out₁ → FedTo (feedOf s h m) input out used written f out₁
+kept-fed s h m input out out₁ k used written f e t = subst (λ (x : Feed). FedTo x input out used written f out₁) (kept-same s h m k e) t
 
 -- as many bytes of the part p as there is room for are put behind the bytes held
 pub hold-part : (h p y : List ℕ) (have n : ℕ) → length h ≡ 601 → have ≤ 601 → n ≡ min (length p) (601 - have)

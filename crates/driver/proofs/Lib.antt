@@ -5,6 +5,7 @@ pub mod Feeding
 pub mod Held
 pub mod Pieces
 pub mod Served
+pub mod Stepped
 pub mod Stopped
 pub mod Turned
 pub mod Whole

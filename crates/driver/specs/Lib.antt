@@ -2,3 +2,4 @@
 pub mod Feed
 pub mod Served
 pub mod Fed
+pub mod Stepped

@@ -4,8 +4,12 @@ ghost use Prim.Native.Nat.{min, _+_, _≤_};
 ghost use mathlib.Core.List.{_++_};
 ghost use mathlib.Core.Path.{_≡_};
 ghost use lib.ListN.{length, take};
-ghost use Rattle.driver.specs.Feed.{newlineFrom};
+ghost use Rattle.replies.specs.Wrote.{Wrote};
+ghost use Rattle.turns.specs.Taken.{usable};
+ghost use Rattle.driver.specs.Feed.{ended, replyTo, newlineFrom};
 ghost use Rattle.driver.specs.Fed.{feedOf, opened, FedTo, FinishedTo};
+ghost use Rattle.driver.specs.Stepped.{SteppedTo};
+use model::Request;
 use model::State;
 use turns::Answered;
 use turns::Host;
@@ -95,6 +99,27 @@ fn stand(host: Host, line: u64, have: usize, used: usize) -> Fed
     }
 }
 
+// What became of a line: it is answered, and its reply ends at a place; or its request may change the tables, and waits. So the
+// tables are moved for such a line alone.
+enum Step {
+    To { place: usize },
+    Waits { request: Request },
+}
+
+// One line, without its newline: read, and answered where that leaves the tables.
+fn take_line(host: Host, line: &[u8], scratch: &mut [u8], number: u64, out: &mut [u8]) -> Step
+    requires { ⌜ (host .ready ≡ usable (host .state) (length (now scratch))) × (host .at + 600 ≤ length (now out)) ⌝ }
+    ensures { λ r. ⌜ SteppedTo host (now (line .entry)) (now (scratch .entry)) number (now (out .entry)) r (now (scratch .exit)) (now (out .exit)) ⌝ }
+{
+    let mut buffer = [0u8; 257];
+    let request = lines::read_line(line, &mut buffer);
+    let answered = turns::answer(host, scratch, number, request, &mut buffer, out);
+    match answered {
+        Answered::To { place } => Step::To { place: place },
+        Answered::NotYet => Step::Waits { request: request },
+    }
+}
+
 // A piece of input, where no more bytes are said to be held than there is room for.
 fn feed_lines(
     session: Session,
@@ -129,14 +154,12 @@ fn feed_lines(
         line = std::num::wrapping_add_u64(line, 1);
         have = 0;
         i = e + 1;
-        let mut buffer = [0u8; 257];
-        let request = lines::read_line(&held[0..n], &mut buffer);
-        let answered = turns::answer(host, scratch, number, request, &mut buffer, out);
-        match answered {
-            Answered::To { place } => {
+        let step = take_line(host, &held[0..n], scratch, number, out);
+        match step {
+            Step::To { place } => {
                 host.at = place;
             }
-            Answered::NotYet => {
+            Step::Waits { request } => {
                 host = turns::change(host, scratch, number, request, out);
             }
         }
@@ -158,8 +181,37 @@ pub fn feed(
     feed_lines(session, held, scratch, input, out)
 }
 
-// The end of the input: a line that has a byte is answered, as by a newline.
-pub fn finish(session: Session, held: &[u8; 601], scratch: &mut [u8], out: &mut [u8]) -> Finished
+// A line that is held at the end of the input.
+fn last_line(session: Session, held: &[u8], scratch: &mut [u8], out: &mut [u8]) -> usize
+    requires { ⌜ (session .have ≤ length (now held)) × (600 ≤ length (now out)) ⌝ }
+    ensures { λ r. ⌜ (Wrote (now (out .entry)) 0 (replyTo (feedOf session (now (held .entry)) (now (scratch .entry)))) (now (out .exit)) r) × (now (scratch .exit) ≡ ended (feedOf session (now (held .entry)) (now (scratch .entry))) .session .scratch) ⌝ }
+{
+    let state = session.state;
+    let host = Host {
+        begun: session.begun,
+        ready: turns::is_usable(state, scratch.len()),
+        at: 0,
+        state: state,
+    };
+    let have = session.have;
+    let number = session.line;
+    let step = take_line(host, &held[0..have], scratch, number, out);
+    match step {
+        Step::To { place } => place,
+        Step::Waits { request } => {
+            let after = turns::change(host, scratch, number, request, out);
+            after.at
+        }
+    }
+}
+
+// The end of the input: a line that has a byte is answered.
+pub fn finish(
+    mut session: Session,
+    held: &[u8; 601],
+    scratch: &mut [u8],
+    out: &mut [u8],
+) -> Finished
     ensures { λ r. ⌜ FinishedTo (feedOf session (now (held .entry)) (now (scratch .entry))) (now (scratch .entry)) (now (out .entry)) (r .done) (r .written) (now (scratch .exit)) (now (out .exit)) ⌝ }
 {
     if out.len() < 600 {
@@ -168,16 +220,15 @@ pub fn finish(session: Session, held: &[u8; 601], scratch: &mut [u8], out: &mut 
             written: 0,
         };
     }
-    if kept(held, session.have) == 0 {
+    session.have = kept(held, session.have);
+    if session.have == 0 {
         return Finished {
             done: true,
             written: 0,
         };
     }
-    let mut line = *held;
-    let fed = feed(session, &mut line, scratch, &[10], out);
     Finished {
         done: true,
-        written: fed.written,
+        written: last_line(session, held, scratch, out),
     }
 }

@@ -5,11 +5,11 @@ use native.Mathlib.Omega.{arith}
 use lib.ListN.{length}
 use borrow.Author.Needs.{needs}
 use Rattle.turns.specs.Taken.{usable}
-use Rattle.turns.proofs.Waiting.{yet-waiting, yet-ready, yet-room}
 use Rattle.driver.specs.Fed.{Going}
 use Rattle.driver.proofs.Feeding.{going-start}
+use Rattle.driver.proofs.Stepped.{step-waiting, step-ready, step-room}
 use Rattle.driver.proofs.Stopped.{stop-full, stop-end, stop-part}
-use Rattle.driver.proofs.Turned.{feedAt, read-prepared, read-long, turn-answered, turn-changed, answered-ready, changed-ready}
+use Rattle.driver.proofs.Turned.{feedAt, turn-answered, turn-changed, answered-ready, changed-ready}
 use Rattle.driver.proofs.feed_lines.Statement.{statement}
 use Rattle.driver.proofs.feed_lines.Tie as tie
 
@@ -82,71 +82,63 @@ wrapping-add-u64-requires c κs = search needs
 add-i : tie.Need-add-i Inv-loop μ-loop
 add-i c = search needs
 
-sub-read-line : tie.Need-sub-read-line Inv-loop μ-loop
-sub-read-line c = search needs
+sub-take-line : tie.Need-sub-take-line Inv-loop μ-loop
+sub-take-line c = search needs
 
-part-read-line-start : tie.Need-part-read-line-start Inv-loop μ-loop
-part-read-line-start c = search needs
+part-take-line-start : tie.Need-part-take-line-start Inv-loop μ-loop
+part-take-line-start c = search needs
 
-part-read-line-end : tie.Need-part-read-line-end Inv-loop μ-loop
-part-read-line-end c = search needs
+part-take-line-end : tie.Need-part-take-line-end Inv-loop μ-loop
+part-take-line-end c = search needs
 
-read-line-requires : tie.Need-read-line-requires Inv-loop μ-loop
-read-line-requires c κs = search needs
+take-line-requires : tie.Need-take-line-requires Inv-loop μ-loop
+take-line-requires c κs = search needs
 
-slice-aggregate-answer : tie.Need-slice-aggregate-answer Inv-loop μ-loop
-slice-aggregate-answer c = search read-long
-
-answer-requires : tie.Need-answer-requires Inv-loop μ-loop
-answer-requires c κs = (search read-prepared, search needs, search needs)
-
-enum-known-answered : tie.Need-enum-known-answered Inv-loop μ-loop
-enum-known-answered c = search needs
+enum-known-step : tie.Need-enum-known-step Inv-loop μ-loop
+enum-known-step c = search needs
 
 loop-less : tie.Need-loop-less Inv-loop μ-loop
 loop-less c = search needs
 
 loop-again : tie.Need-loop-again Inv-loop μ-loop
 loop-again c =
-    let here = c .before .before .before .before .before .before .before .before .before .before .before .before .before .before .before .before .before .before .before .before .before .before .before .before .before .before .before .loop .inv in
-    let loop = c .before .before .before .before .before .before .before .before .before .before .before .before .before .before .before .before .before .before .before .before .before .before .before .before .before .before .before .loop in
-    let input = c .before .before .before .before .before .before .before .before .before .before .before .before .before .before .before .before .before .before .before .before .before .before .before .before .before .before .before .before .before .before .before .before .before .before .args .input .now in
-    let found = c .before .before .before .before .before .before .before .before .before .before .before .before .before .before .before .before .before .before .before .before .before .before .before .line-end .result in
-    let end = c .before .before .before .before .before .before .before .before .before .before .before .before .before .before .before .before .before .before .before .before .before .before .before .line-end .ensures in
-    let test = c .before .before .before .before .before .before .before .before .before .before .before .before .before .before .before .before .before .if2 .left in
-    let part = c .before .before .before .before .before .before .before .before .before .before .before .before .before .before .before .before .before .before .before .before .hold in
-    let number = c .before .before .before .before .before .before .before .before .before .before .before .before .before .before .before .before .wrapping-add-u64 .ensures in
-    let read = c .before .before .before .before .before .before .before .before .before .before .before .before .read-line .ensures in
-    let answered = c .before .before .before .before .before .before .before .before .answer .ensures in
-    (turn-answered _ _ input _ _ _ _ _ (loop .held) (part .last .0) _ (loop .i) found _ _ (loop .have) (part .result) _ _ (here .0) (end .0) (end .1) (omega (arith, end .2, test)) (here .2) (part .ensures .0) (read .0) (read .1) answered number _ (c .before .answered .given .1), search answered-ready, search needs, search needs, search needs, search needs)
+    let loop = c .before .before .before .before .before .before .before .before .before .before .before .before .before .before .before .before .before .before .before .before .before .before .before .loop in
+    let here = loop .inv in
+    let input = c .before .before .before .before .before .before .before .before .before .before .before .before .before .before .before .before .before .before .before .before .before .before .before .before .before .before .before .before .before .before .args .input .now in
+    let found = c .before .before .before .before .before .before .before .before .before .before .before .before .before .before .before .before .before .before .before .line-end .result in
+    let end = c .before .before .before .before .before .before .before .before .before .before .before .before .before .before .before .before .before .before .before .line-end .ensures in
+    let test = c .before .before .before .before .before .before .before .before .before .before .before .before .before .if2 .left in
+    let part = c .before .before .before .before .before .before .before .before .before .before .before .before .before .before .before .before .hold in
+    let number = c .before .before .before .before .before .before .before .before .before .before .before .before .wrapping-add-u64 .ensures in
+    let taken = c .before .before .before .before .before .before .before .take-line .ensures in
+    (turn-answered _ _ input _ _ _ _ _ (loop .held) (part .last .0) (loop .i) found _ _ (loop .have) (part .result) _ (here .0) (end .0) (end .1) (omega (arith, end .2, test)) (here .2) (part .ensures .0) number taken _ (c .before .step .given .1), search answered-ready, search needs, search needs, search needs, search needs)
 
-enum-told : tie.Need-enum-told Inv-loop μ-loop
-enum-told c = search needs
+enum-known-step-2 : tie.Need-enum-known-step-2 Inv-loop μ-loop
+enum-known-step-2 c = search needs
 
 change-requires : tie.Need-change-requires Inv-loop μ-loop
 change-requires c κs =
-    let here = c .before .before .before .before .before .before .before .before .before .before .before .before .before .before .before .before .before .before .before .before .before .before .before .before .before .before .before .before .loop .inv in
-    let room = c .before .before .before .before .before .before .before .before .before .before .before .before .before .before .before .before .before .before .before .before .before .before .before .before .before .if1 .left in
-    let answered = c .before .before .before .before .before .before .before .before .before .answer .ensures in
-    let told = c .before .before .enum-told .given .1 in
-    (yet-waiting _ _ _ _ _ _ _ _ _ answered told, yet-ready _ _ _ _ _ _ _ _ _ answered told (here .1), yet-room _ _ _ _ _ _ _ _ _ answered told (omega (arith, room)))
+    let here = c .before .before .before .before .before .before .before .before .before .before .before .before .before .before .before .before .before .before .before .before .before .before .before .before .before .loop .inv in
+    let room = c .before .before .before .before .before .before .before .before .before .before .before .before .before .before .before .before .before .before .before .before .before .before .if1 .left in
+    let taken = c .before .before .before .before .before .before .before .before .before .take-line .ensures in
+    let told = c .before .before .before .step2 .given .1 in
+    (step-waiting _ _ _ _ _ _ _ _ taken _ told, step-ready _ _ _ _ _ _ _ _ taken _ told (here .1), step-room _ _ _ _ _ _ _ _ taken _ _ told (omega (arith, room)))
 
 loop-less-2 : tie.Need-loop-less-2 Inv-loop μ-loop
-loop-less-2 c = omega (arith, c .before .before .before .before .before .before .before .before .before .before .before .before .before .before .before .before .before .before .before .before .before .before .before .before .before .before .before .before .before .line-end .ensures .1, c .before .before .before .before .before .before .before .before .before .before .before .before .before .before .before .before .before .before .before .before .before .before .before .before .before .before .before .before .before .before .before .before .loop-test .taken)
+loop-less-2 c = omega (arith, c .before .before .before .before .before .before .before .before .before .before .before .before .before .before .before .before .before .before .before .before .before .before .before .before .before .before .line-end .ensures .1, c .before .before .before .before .before .before .before .before .before .before .before .before .before .before .before .before .before .before .before .before .before .before .before .before .before .before .before .before .before .loop-test .taken)
 
 loop-again-2 : tie.Need-loop-again-2 Inv-loop μ-loop
 loop-again-2 c =
-    let here = c .before .before .before .before .before .before .before .before .before .before .before .before .before .before .before .before .before .before .before .before .before .before .before .before .before .before .before .before .before .before .before .before .before .loop .inv in
-    let loop = c .before .before .before .before .before .before .before .before .before .before .before .before .before .before .before .before .before .before .before .before .before .before .before .before .before .before .before .before .before .before .before .before .before .loop in
-    let input = c .before .before .before .before .before .before .before .before .before .before .before .before .before .before .before .before .before .before .before .before .before .before .before .before .before .before .before .before .before .before .before .before .before .before .before .before .before .before .before .before .args .input .now in
-    let found = c .before .before .before .before .before .before .before .before .before .before .before .before .before .before .before .before .before .before .before .before .before .before .before .before .before .before .before .before .before .line-end .result in
-    let end = c .before .before .before .before .before .before .before .before .before .before .before .before .before .before .before .before .before .before .before .before .before .before .before .before .before .before .before .before .before .line-end .ensures in
-    let test = c .before .before .before .before .before .before .before .before .before .before .before .before .before .before .before .before .before .before .before .before .before .before .before .if2 .left in
-    let part = c .before .before .before .before .before .before .before .before .before .before .before .before .before .before .before .before .before .before .before .before .before .before .before .before .before .before .hold in
-    let number = c .before .before .before .before .before .before .before .before .before .before .before .before .before .before .before .before .before .before .before .before .before .before .wrapping-add-u64 .ensures in
-    let read = c .before .before .before .before .before .before .before .before .before .before .before .before .before .before .before .before .before .before .read-line .ensures in
-    let answered = c .before .before .before .before .before .before .before .before .before .before .before .before .before .before .answer .ensures in
-    (turn-changed _ _ input _ _ _ _ _ (loop .held) (part .last .0) _ (loop .i) found _ _ (loop .have) (part .result) _ _ (here .0) (end .0) (end .1) (omega (arith, end .2, test)) (here .2) (part .ensures .0) (read .0) (read .1) answered number _ _ _ (c .before .before .before .before .before .before .before .enum-told .given .1) (c .before .before .before .before .change .ensures), search changed-ready, search needs, omega (arith, here .3, c .before .before .before .before .before .before .before .before .before .before .before .before .before .before .before .before .before .before .before .before .before .before .before .before .before .held .given), omega (arith, here .4), omega (arith, here .5))
+    let loop = c .before .before .before .before .before .before .before .before .before .before .before .before .before .before .before .before .before .before .before .before .before .before .before .before .before .before .before .before .before .before .loop in
+    let here = loop .inv in
+    let input = c .before .before .before .before .before .before .before .before .before .before .before .before .before .before .before .before .before .before .before .before .before .before .before .before .before .before .before .before .before .before .before .before .before .before .before .before .before .args .input .now in
+    let found = c .before .before .before .before .before .before .before .before .before .before .before .before .before .before .before .before .before .before .before .before .before .before .before .before .before .before .line-end .result in
+    let end = c .before .before .before .before .before .before .before .before .before .before .before .before .before .before .before .before .before .before .before .before .before .before .before .before .before .before .line-end .ensures in
+    let test = c .before .before .before .before .before .before .before .before .before .before .before .before .before .before .before .before .before .before .before .before .if2 .left in
+    let part = c .before .before .before .before .before .before .before .before .before .before .before .before .before .before .before .before .before .before .before .before .before .before .before .hold in
+    let number = c .before .before .before .before .before .before .before .before .before .before .before .before .before .before .before .before .before .before .before .wrapping-add-u64 .ensures in
+    let taken = c .before .before .before .before .before .before .before .before .before .before .before .before .before .before .take-line .ensures in
+    (turn-changed _ _ input _ _ _ _ _ (loop .held) (part .last .0) (loop .i) found _ _ (loop .have) (part .result) _ (here .0) (end .0) (end .1) (omega (arith, end .2, test)) (here .2) (part .ensures .0) number taken _ _ _ _ (c .before .before .before .before .before .before .before .before .step2 .given .1) (c .before .before .before .before .change .ensures), search changed-ready, search needs, omega (arith, here .3, c .before .before .before .before .before .before .before .before .before .before .before .before .before .before .before .before .before .before .before .before .before .before .held .given), omega (arith, here .4), omega (arith, here .5))
 
 stand-requires-3 : tie.Need-stand-requires-3 Inv-loop μ-loop
 stand-requires-3 c κs = search needs
@@ -189,16 +181,14 @@ feed-lines-spec =
     returns-2
     wrapping-add-u64-requires
     add-i
-    sub-read-line
-    part-read-line-start
-    part-read-line-end
-    read-line-requires
-    slice-aggregate-answer
-    answer-requires
-    enum-known-answered
+    sub-take-line
+    part-take-line-start
+    part-take-line-end
+    take-line-requires
+    enum-known-step
     loop-less
     loop-again
-    enum-told
+    enum-known-step-2
     change-requires
     loop-less-2
     loop-again-2

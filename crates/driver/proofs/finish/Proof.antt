@@ -14,11 +14,8 @@ kept-requires c κs = search needs
 returns-2 : tie.Need-returns-2
 returns-2 c = search (finish-none, arith)
 
-slice-aggregate-feed : tie.Need-slice-aggregate-feed
-slice-aggregate-feed c = search needs
-
-feed-requires : tie.Need-feed-requires
-feed-requires c κs = search needs
+last-line-requires : tie.Need-last-line-requires
+last-line-requires c κs = search needs
 
 same-length : tie.Need-same-length
 same-length c = search needs
@@ -36,8 +33,7 @@ finish-spec =
     returns
     kept-requires
     returns-2
-    slice-aggregate-feed
-    feed-requires
+    last-line-requires
     same-length
     same-length-2
     returns-3)
