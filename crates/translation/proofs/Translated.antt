@@ -11,6 +11,7 @@ use borrow.Author.Tests.{le-leb, eq-eqb, eqb-false}
 use Rattle.lists.specs.Choice.{choose, both}
 use Rattle.lists.proofs.Choice.{yes!, choose-eq, both-intro, both-not}
 use Rattle.lists.proofs.Places.{lowest-le}
+use Rattle.entries.specs.Assigned.{assignedTo}
 use Rattle.model.specs.declared.Answer.the-variants.{AlenTranslation}
 use Rattle.model.specs.declared.Entry.{Entry}
 use Rattle.model.specs.declared.Right.the-variants.{Write}
@@ -26,7 +27,7 @@ use Rattle.model.specs.Tables.{spaceAt, guestAt, noGuest, unusedEntry}
 use Rattle.model.specs.Tokens.{malformed, assigned, entryNumber, upperHalf}
 use Rattle.model.specs.Translation.{throughStanding, translate}
 use Rattle.model.proofs.Tokens.{formed}
-use Rattle.translation.specs.Translated.{tokenPlace, assignedTo, translatedBy}
+use Rattle.translation.specs.Translated.{tokenPlace, translatedBy}
 
 named-place : (k t : ℕ) → t ≢ 0 → malformed t ≡ false → tokenPlace k t ≡ k * 30 + (entryNumber t - 2)
 unfolding tokenPlace
@@ -37,7 +38,7 @@ named-place k t z f =
 -- with the entry that the token names, it is the model's translation
 pub translated-is : (s : State) (g k t : ℕ) → k ≡ g - 1
     → translatedBy (s .spaces) (getD (s .guests) k noGuest .list) (getD (s .entries) (tokenPlace k t) unusedEntry) g t ≡ translate s g t
-unfolding translatedBy translate assignedTo assigned
+unfolding translatedBy translate assigned
 translated-is s g k t q =
     rw q
     (choose-eq (eqb t 0) (λ _. refl) (λ z.
@@ -48,7 +49,7 @@ translated-is s g k t q =
 -- an entry of the list with the token's sequence: if it is unused, both ways refuse alike
 pub through-list : (x : Translation) (e : Entry) (l t : ℕ) → entryNumber t ≤ l + 1 → e .sequence ≡ upperHalf t → x ≡ throughStanding (e .standing)
     → x ≡ choose (not (assignedTo e l t)) (Refused AlenTranslation) (throughStanding (e .standing))
-unfolding assignedTo choose both isUnused throughStanding
+unfolding choose both isUnused throughStanding
 through-list x e l t h q p = p ∙ sym (rw (le-leb (entryNumber t) (l + 1) h, eq-eqb (e .sequence) (upperHalf t) q) (go (e .standing)))
   where
     go : (a : Standing) → choose (not (both true (both (not (isUnused a)) true))) (Refused AlenTranslation) (throughStanding a) ≡ throughStanding a

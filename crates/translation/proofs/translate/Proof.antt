@@ -1,6 +1,6 @@
 -- `translation::translate` meets its contract.
 use Rattle.lists.proofs.Rules.{tests}
-use Rattle.translation.specs.Translated.{assignedTo, translatedBy}
+use Rattle.translation.specs.Translated.{translatedBy}
 use Rattle.translation.proofs.Translated.{primary-small, translation}
 use borrow.Author.Needs.{needs}
 use Rattle.translation.proofs.translate.Statement.{statement}
@@ -13,35 +13,35 @@ cast-t8 : tie.Need-cast-t8
 cast-t8 c = search (primary-small, needs)
 
 returns : tie.Need-returns
-unfolding translatedBy assignedTo
+unfolding translatedBy
 returns c = search (translation, tests) depth 8
 
 is-malformed-requires : tie.Need-is-malformed-requires
 is-malformed-requires c κs = search needs
 
 returns-2 : tie.Need-returns-2
-unfolding translatedBy assignedTo
+unfolding translatedBy
 returns-2 c = search (translation, tests) depth 8
 
 add-if3 : tie.Need-add-if3
 add-if3 c = search needs
 
 returns-3 : tie.Need-returns-3
-unfolding translatedBy assignedTo
+unfolding translatedBy
 returns-3 c = search (translation, tests) depth 8
 
 cast-if4 : tie.Need-cast-if4
 cast-if4 c = search needs
 
 returns-4 : tie.Need-returns-4
-unfolding translatedBy assignedTo
+unfolding translatedBy
 returns-4 c = search (translation, tests) depth 8
 
 through-requires : tie.Need-through-requires
 through-requires c κs = search needs
 
 returns-5 : tie.Need-returns-5
-unfolding translatedBy assignedTo
+unfolding translatedBy
 returns-5 c = search (translation, tests) depth 8
 
 pub translate-spec : {M : Type 1} → statement M
