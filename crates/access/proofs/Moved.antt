@@ -10,6 +10,7 @@ use Rattle.lists.specs.Bytes.{over, part, put, get}
 use Rattle.lists.specs.Choice.{choose, implies}
 use Rattle.lists.proofs.Bytes.{put-run, get-run}
 use Rattle.lists.proofs.Choice.{choose-eq}
+use Rattle.model.specs.declared.Change.the-variants.{Keep}
 use Rattle.model.specs.declared.Answer.{Answer}
 use Rattle.model.specs.declared.Answer.the-variants.{Addressing, Protection}
 use Rattle.model.specs.declared.Call.{Call}
@@ -22,7 +23,7 @@ use Rattle.model.specs.declared.Translation.{Translation}
 use Rattle.model.specs.declared.Translation.the-variants.{Reached, Refused}
 use Rattle.model.specs.Arguments.{goodLength, arguments, checkAll}
 use Rattle.model.specs.Calls.{judge, goodCaller, enrols, perform, fetching, storing, target, access, accessAt, writes}
-use Rattle.model.specs.Decision.{Decision, fetch, store, refuse, accept, check}
+use Rattle.model.specs.Decision.{after, Decision, fetch, store, refuse, accept, check}
 use Rattle.model.specs.Frames.{layout, frameOf, placeOf}
 use Rattle.model.specs.Leaves.{scratchJudged, bufferJudged}
 use Rattle.model.specs.Replies.{callOf}
@@ -37,89 +38,89 @@ abbrev space : State → (slot : ℕ) → Space
 space s u = spaceAt (s .spaces) u
 
 -- what a check leaves of a decision: its answer, and what becomes of the lent buffer and of scratch
-abbrev bufferOf : Decision → (m b : List ℕ) → List ℕ
-bufferOf d m b = bufferAfter (d .after) (d .effect) m b
+abbrev bufferOf : State → Decision → (m b : List ℕ) → List ℕ
+bufferOf s d m b = bufferAfter (after s d) (d .effect) m b
 
-abbrev scratchOf : Decision → (m b : List ℕ) → List ℕ
-scratchOf d m b = scratchAfter (d .after) (d .effect) m b
+abbrev scratchOf : State → Decision → (m b : List ℕ) → List ℕ
+scratchOf s d m b = scratchAfter (after s d) (d .effect) m b
 
-check-answer : (s : State) (t : Bool) (a : Answer) (d : Decision) → check s t a d .answer ≡ choose t (d .answer) a
+check-answer : (s : State) (t : Bool) (a : Answer) (d : Decision) → check t a d .answer ≡ choose t (d .answer) a
 unfolding check choose
 check-answer s true a d = refl
 check-answer s false a d = refl
 
-check-buffer : (s : State) (t : Bool) (a : Answer) (d : Decision) (m b : List ℕ) → bufferOf (check s t a d) m b ≡ choose t (bufferOf d m b) b
+check-buffer : (s : State) (t : Bool) (a : Answer) (d : Decision) (m b : List ℕ) → bufferOf s (check t a d) m b ≡ choose t (bufferOf s d m b) b
 unfolding check choose bufferAfter
 check-buffer s true a d m b = refl
 check-buffer s false a d m b = refl
 
-check-scratch : (s : State) (t : Bool) (a : Answer) (d : Decision) (m b : List ℕ) → scratchOf (check s t a d) m b ≡ choose t (scratchOf d m b) m
+check-scratch : (s : State) (t : Bool) (a : Answer) (d : Decision) (m b : List ℕ) → scratchOf s (check t a d) m b ≡ choose t (scratchOf s d m b) m
 unfolding check choose scratchAfter
 check-scratch s true a d m b = refl
 check-scratch s false a d m b = refl
 
 -- for search: a chain of checks up to the one that refuses
-pub go : (s : State) (t : Bool) (a : Answer) (d x : Decision) → t ≡ true → d ≡ x → check s t a d ≡ x
-go s t a d x e p = check-yes s a d e ∙ p
+pub go : (s : State) (t : Bool) (a : Answer) (d x : Decision) → t ≡ true → d ≡ x → check t a d ≡ x
+go s t a d x e p = check-yes a d e ∙ p
 
-pub stop : (s : State) (t : Bool) (a : Answer) (d : Decision) → t ≡ false → check s t a d ≡ refuse s a
-stop s t a d e = check-no s a d e
+pub stop : (s : State) (t : Bool) (a : Answer) (d : Decision) → t ≡ false → check t a d ≡ refuse a
+stop s t a d e = check-no a d e
 
 pub ruleset stops = (go, stop)
 
 -- a refusal moves nothing
-module _ (s : State) (k : Call) (m b : List ℕ) (y : Answer) (e : judge s k (length b) ≡ refuse s y) where
+module _ (s : State) (k : Call) (m b : List ℕ) (y : Answer) (e : judge s k (length b) ≡ refuse y) where
   pub fetch-refused : (y ≡ judge s k (length b) .answer) × (b ≡ bufferJudged s k m b)
   unfolding bufferJudged bufferAfter
-  fetch-refused = (ap (λ d. d .answer) (sym e), ap (λ d. bufferOf d m b) (sym e))
+  fetch-refused = (ap (λ d. d .answer) (sym e), ap (λ d. bufferOf s d m b) (sym e))
 
   pub store-refused : (y ≡ judge s k (length b) .answer) × (m ≡ scratchJudged s k m b)
   unfolding scratchJudged scratchAfter
-  store-refused = (ap (λ d. d .answer) (sym e), ap (λ d. scratchOf d m b) (sym e))
+  store-refused = (ap (λ d. d .answer) (sym e), ap (λ d. scratchOf s d m b) (sym e))
 
 -- the model's call, once the checks 2 and 3 have passed
 module _ (s : State) (c : Caller) (r a n : ℕ) (x : Translation) (h : Aimed s (c .guest) r x) (l : goodLength n ≡ true) where
   judge-fetch : judge s (callOf c (Fetch r a)) n ≡ access s a n false (λ u. fetch u a) x
   unfolding judge goodCaller enrols choose arguments checkAll perform fetching target
   judge-fetch =
-      check-yes s _ _ (h .guest)
-      ∙ check-yes s _ _ (le-leb r 15 (h .register))
-      ∙ check-yes s _ _ l
+      check-yes _ _ (h .guest)
+      ∙ check-yes _ _ (le-leb r 15 (h .register))
+      ∙ check-yes _ _ l
       ∙ ap (access s a n false (λ u. fetch u a)) (sym (h .is))
 
   judge-store : judge s (callOf c (Store r a)) n ≡ access s a n true (λ u. store u a) x
   unfolding judge goodCaller enrols choose arguments checkAll perform storing target
   judge-store =
-      check-yes s _ _ (h .guest)
-      ∙ check-yes s _ _ (le-leb r 15 (h .register))
-      ∙ check-yes s _ _ l
+      check-yes _ _ (h .guest)
+      ∙ check-yes _ _ (le-leb r 15 (h .register))
+      ∙ check-yes _ _ l
       ∙ ap (access s a n true (λ u. store u a)) (sym (h .is))
 
   -- translation refused
-  pub fetch-stops : (y : Answer) → x ≡ Refused y → judge s (callOf c (Fetch r a)) n ≡ refuse s y
+  pub fetch-stops : (y : Answer) → x ≡ Refused y → judge s (callOf c (Fetch r a)) n ≡ refuse y
   unfolding access
   fetch-stops y e = judge-fetch ∙ ap (access s a n false (λ u. fetch u a)) e
 
-  pub store-stops : (y : Answer) → x ≡ Refused y → judge s (callOf c (Store r a)) n ≡ refuse s y
+  pub store-stops : (y : Answer) → x ≡ Refused y → judge s (callOf c (Store r a)) n ≡ refuse y
   unfolding access
   store-stops y e = judge-store ∙ ap (access s a n true (λ u. store u a)) e
 
   -- it reached the space in slot u
   module _ (u : ℕ) (q : Right) (e : x ≡ Reached u q) where
-    fetch-on : judge s (callOf c (Fetch r a)) n ≡ check s (inside (space s u) a n) Addressing (accept s 0 (fetch u a))
+    fetch-on : judge s (callOf c (Fetch r a)) n ≡ check (inside (space s u) a n) Addressing (accept 0 Keep (fetch u a))
     unfolding access accessAt implies
     fetch-on =
         judge-fetch
         ∙ ap (access s a n false (λ u. fetch u a)) e
-        ∙ ap (check s (inside (space s u) a n) Addressing) (check-yes s Protection (accept s 0 (fetch u a)) refl)
+        ∙ ap (check (inside (space s u) a n) Addressing) (check-yes Protection (accept 0 Keep (fetch u a)) refl)
 
-    store-on : judge s (callOf c (Store r a)) n ≡ check s (inside (space s u) a n) Addressing (check s (writes q) Protection (accept s 0 (store u a)))
+    store-on : judge s (callOf c (Store r a)) n ≡ check (inside (space s u) a n) Addressing (check (writes q) Protection (accept 0 Keep (store u a)))
     unfolding access accessAt implies
     store-on = judge-store ∙ ap (access s a n true (λ u. store u a)) e
 
     pub fetch-says : (v : Answer) → v ≡ fetchAnswer (space s u) a n → v ≡ judge s (callOf c (Fetch r a)) n .answer
     unfolding fetchAnswer
-    fetch-says v p = p ∙ sym (ap (λ d. d .answer) fetch-on ∙ check-answer s (inside (space s u) a n) Addressing (accept s 0 (fetch u a)))
+    fetch-says v p = p ∙ sym (ap (λ d. d .answer) fetch-on ∙ check-answer s (inside (space s u) a n) Addressing (accept 0 Keep (fetch u a)))
 
     pub store-says : (v : Answer) → v ≡ storeAnswer (space s u) q a n → v ≡ judge s (callOf c (Store r a)) n .answer
     unfolding storeAnswer
@@ -127,8 +128,8 @@ module _ (s : State) (c : Caller) (r a n : ℕ) (x : Translation) (h : Aimed s (
         p
         ∙ sym
         (ap (λ d. d .answer) store-on
-        ∙ check-answer s (inside (space s u) a n) Addressing (check s (writes q) Protection (accept s 0 (store u a)))
-        ∙ ap (λ z. choose (inside (space s u) a n) z Addressing) (check-answer s (writes q) Protection (accept s 0 (store u a))))
+        ∙ check-answer s (inside (space s u) a n) Addressing (check (writes q) Protection (accept 0 Keep (store u a)))
+        ∙ ap (λ z. choose (inside (space s u) a n) z Addressing) (check-answer s (writes q) Protection (accept 0 Keep (store u a))))
 
 -- the bytes of the space in slot u from an address on are one run of scratch
 module _ (s : State) (u a : ℕ) (m b : List ℕ) (run : RunIn (space s u) m) (t : inside (space s u) a (length b) ≡ true) where
@@ -150,8 +151,8 @@ module _ (s : State) (c : Caller) (r a : ℕ) (m b : List ℕ) (x : Translation)
   fetch-fills z p =
       p
       ∙ sym
-      (ap (λ d. bufferOf d m b) (fetch-on s c r a (length b) x h l u q e)
-      ∙ check-buffer s (inside (space s u) a (length b)) Addressing (accept s 0 (fetch u a)) m b
+      (ap (λ d. bufferOf s d m b) (fetch-on s c r a (length b) x h l u q e)
+      ∙ check-buffer s (inside (space s u) a (length b)) Addressing (accept 0 Keep (fetch u a)) m b
       ∙ choose-eq (inside (space s u) a (length b)) (run-read s u a m b run) (λ _. refl))
 
   pub store-puts : (z : List ℕ) → z ≡ stored (space s u) q a m b → z ≡ scratchJudged s (callOf c (Store r a)) m b
@@ -159,8 +160,8 @@ module _ (s : State) (c : Caller) (r a : ℕ) (m b : List ℕ) (x : Translation)
   store-puts z p =
       p
       ∙ sym
-      (ap (λ d. scratchOf d m b) (store-on s c r a (length b) x h l u q e)
-      ∙ check-scratch s (inside (space s u) a (length b)) Addressing (check s (writes q) Protection (accept s 0 (store u a))) m b
+      (ap (λ d. scratchOf s d m b) (store-on s c r a (length b) x h l u q e)
+      ∙ check-scratch s (inside (space s u) a (length b)) Addressing (check (writes q) Protection (accept 0 Keep (store u a))) m b
       ∙ choose-eq (inside (space s u) a (length b)) (λ t.
-      check-scratch s (writes q) Protection (accept s 0 (store u a)) m b
+      check-scratch s (writes q) Protection (accept 0 Keep (store u a)) m b
       ∙ choose-eq (writes q) (λ _. run-written s u a m b run t) (λ _. refl)) (λ _. refl))

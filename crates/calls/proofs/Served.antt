@@ -3,6 +3,7 @@ use Prim.Native.Nat.{ℕ}
 use mathlib.Core.List.{List}
 use mathlib.Core.Path.{_≡_, ap, ap₂, sym, _∙_}
 use lib.ListN.{length}
+use Rattle.model.specs.Decision.{after}
 use Rattle.model.specs.declared.Answer.{Answer}
 use Rattle.model.specs.declared.Call.{Call}
 use Rattle.model.specs.declared.Caller.{Caller}
@@ -21,15 +22,15 @@ use Rattle.calls.proofs.Touches.{touch, LeavesTables, LeavesScratch, Le
 
 -- by what the call touches
 module _ (s : State) (c : Caller) (k : Operation) (m b : List ℕ) where
-  replied-kept : (n : ℕ) (a : Answer) → LeavesTables (touch k) → a ≡ judge s (callOf c k) n .answer → reply a s ≡ replied (judge s (callOf c k) n)
+  replied-kept : (n : ℕ) (a : Answer) → LeavesTables (touch k) → a ≡ judge s (callOf c k) n .answer → reply a s ≡ replied s (judge s (callOf c k) n)
   unfolding replied
   replied-kept n a l e = ap₂ (λ x t. reply x t) e (sym (tables-kept s c k n l))
 
   -- tables alone
-  pub still : Unmoving (touch k) → LeavesScratch (touch k) → LeavesBuffer (touch k) → (r : Reply) → r ≡ replied (judge s (callOf c k) 0)
+  pub still : Unmoving (touch k) → LeavesScratch (touch k) → LeavesBuffer (touch k) → (r : Reply) → r ≡ replied s (judge s (callOf c k) 0)
       → Served s (callOf c k) r m b m b
   still u ls lb r e = record {
-    reply = e ∙ ap (λ d. replied d) (sym (any-length s c k (length b) u));
+    reply = e ∙ ap (λ d. replied s d) (sym (any-length s c k (length b) u));
     scratch = sym (scratch-kept s c k m b ls);
     buffer = sym (buffer-kept s c k m b lb);
   }
@@ -40,12 +41,12 @@ module _ (s : State) (c : Caller) (k : Operation) (m b : List ℕ) where
   asked u lt ls lb a e = still u ls lb (reply a s) (replied-kept 0 a lt e)
 
   -- a space made: its frames cleared
-  pub made : Unmoving (touch k) → LeavesBuffer (touch k) → (r : Reply) (m' : List ℕ) → MadeBy (judge s (callOf c k) 0) r m m'
+  pub made : Unmoving (touch k) → LeavesBuffer (touch k) → (r : Reply) (m' : List ℕ) → MadeBy s (judge s (callOf c k) 0) r m m'
       → Served s (callOf c k) r m b m' b
   unfolding scratchJudged
   made u lb r m' e = record {
-    reply = e .reply ∙ ap (λ d. replied d) (sym (any-length s c k (length b) u));
-    scratch = e .scratch ∙ bufferless s c k 0 m _ b u ∙ ap (λ d. scratchAfter (d .after) (d .effect) m b) (sym (any-length s c k (length b) u));
+    reply = e .reply ∙ ap (λ d. replied s d) (sym (any-length s c k (length b) u));
+    scratch = e .scratch ∙ bufferless s c k 0 m _ b u ∙ ap (λ d. scratchAfter (after s d) (d .effect) m b) (sym (any-length s c k (length b) u));
     buffer = sym (buffer-kept s c k m b lb);
   }
 
@@ -62,14 +63,14 @@ module _ (s : State) (c : Caller) (k : Operation) (m b : List ℕ) where
 module _ (s : State) (k : Call) (m b : List ℕ) where
   -- what the code of each gives
   abbrev Replied : Operation → Reply → Type 0
-  Replied o r = r ≡ replied (judge s (callOf (k .caller) o) 0)
+  Replied o r = r ≡ replied s (judge s (callOf (k .caller) o) 0)
 
   pub enrol-served : (pages allowance share list asf : ℕ) (r : Reply) (m' : List ℕ) → k .operation ≡ Enrol pages allowance share list asf
-      → MadeBy (judge s (callOf (k .caller) (Enrol pages allowance share list asf)) 0) r m m' → Served s k r m b m' b
+      → MadeBy s (judge s (callOf (k .caller) (Enrol pages allowance share list asf)) 0) r m m' → Served s k r m b m' b
   enrol-served pages allowance share list asf r m' e = rw e (made s (k .caller) (Enrol pages allowance share list asf) m b tt tt r m')
 
   pub create-served : (name pages : ℕ) (r : Reply) (m' : List ℕ) → k .operation ≡ Create name pages
-      → MadeBy (judge s (callOf (k .caller) (Create name pages)) 0) r m m' → Served s k r m b m' b
+      → MadeBy s (judge s (callOf (k .caller) (Create name pages)) 0) r m m' → Served s k r m b m' b
   create-served name pages r m' e = rw e (made s (k .caller) (Create name pages) m b tt tt r m')
 
   pub destroy-served : (id : ℕ) (r : Reply) → k .operation ≡ Destroy id → Replied (Destroy id) r → Served s k r m b m b

@@ -10,7 +10,7 @@ use Rattle.model.specs.declared.Operation.the-variants.{Enrol, Create, Destroy,
 use Rattle.model.specs.declared.State.{State}
 use Rattle.model.specs.Arguments.{arguments}
 use Rattle.model.specs.Calls.{judge, perform}
-use Rattle.model.specs.Decision.{Decision, Effect, none, clear, fetch, store}
+use Rattle.model.specs.Decision.{after, Decision, Effect, none, clear, fetch, store}
 use Rattle.model.specs.Granted.{Performed}
 use Rattle.model.specs.Leaves.{scratchJudged, bufferJudged}
 use Rattle.model.specs.Replies.{callOf}
@@ -70,7 +70,7 @@ Stays bytes s t = t ≡ s
 
 record Touches (t : Touch) (s : State) (d : Decision) : Type 0 where
   effect : Fits t (d .effect)
-  stays : Stays t s (d .after)
+  stays : Stays t s (after s d)
 
 module _ (s : State) (c : Caller) where
   performed-touches : (k : Operation) (n : ℕ) (d : Decision) → Performed s c k n d → Touches (touch k) s d
@@ -100,7 +100,7 @@ module _ (s : State) (c : Caller) where
   touches : (k : Operation) (n : ℕ) → Touches (touch k) s (judge s (callOf c k) n)
   touches k n = go (judged s (callOf c k) n)
     where
-      go : Verdict s (row k) (λ d. Performed s c k n d) (judge s (callOf c k) n) → Touches (touch k) s (judge s (callOf c k) n)
+      go : Verdict (row k) (λ d. Performed s c k n d) (judge s (callOf c k) n) → Touches (touch k) s (judge s (callOf c k) n)
       go (refused r) = rw (r .is) (record { effect = tt; stays = stays-same (touch k) })
       go (granted p) = performed-touches k n (judge s (callOf c k) n) p
 
@@ -180,7 +180,7 @@ any-buffer bytes (store u a) s m b b' l f = absurd l
 
 -- The same of what the checks 2 and 3 and the call come to.
 module _ (s : State) (c : Caller) (k : Operation) where
-  pub tables-kept : (n : ℕ) → LeavesTables (touch k) → judge s (callOf c k) n .after ≡ s
+  pub tables-kept : (n : ℕ) → LeavesTables (touch k) → after s (judge s (callOf c k) n) ≡ s
   tables-kept n l = same-tables (touch k) s _ l (touches s c k n .stays)
 
   pub scratch-kept : (m b : List ℕ) → LeavesScratch (touch k) → scratchJudged s (callOf c k) m b ≡ m
@@ -192,7 +192,7 @@ module _ (s : State) (c : Caller) (k : Operation) where
   buffer-kept m b l = same-buffer (touch k) _ _ m b l (touches s c k (length b) .effect)
 
   pub bufferless : (n : ℕ) (m b b' : List ℕ) → Unmoving (touch k)
-      → scratchAfter (judge s (callOf c k) n .after) (judge s (callOf c k) n .effect) m b ≡ scratchAfter (judge s (callOf c k) n .after) (judge s (callOf c k) n .effect) m b'
+      → scratchAfter (after s (judge s (callOf c k) n)) (judge s (callOf c k) n .effect) m b ≡ scratchAfter (after s (judge s (callOf c k) n)) (judge s (callOf c k) n .effect) m b'
   bufferless n m b b' l = any-buffer (touch k) _ _ m b b' l (touches s c k n .effect)
 
 pub any-length : (s : State) (c : Caller) (k : Operation) (n : ℕ) → Unmoving (touch k) → judge s (callOf c k) n ≡ judge s (callOf c k) 0

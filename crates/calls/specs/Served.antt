@@ -11,6 +11,6 @@ use Rattle.model.specs.Leaves.{scratchJudged, bufferJudged}
 use Rattle.model.specs.Replies.{replied}
 
 pub record Served (s : State) (k : Call) (r : Reply) (m b m' b' : List ℕ) : Type 0 where
-  pub reply : r ≡ replied (judge s k (length b))
+  pub reply : r ≡ replied s (judge s k (length b))
   pub scratch : m' ≡ scratchJudged s k m b
   pub buffer : b' ≡ bufferJudged s k m b

@@ -28,17 +28,17 @@ module _ (s : State) (c : Caller) (at : ℕ) (e : at ≡ callerPlace (s .guests)
 
   -- x is what the code made; the state is thus had from the call that is judged, and not from x
   pub load-done : (r v : ℕ) (x : Reply) → r ≤ 15
-      → x ≡ reply (Done 0) (withCpus s (set (s .cpus) at (record { registers = set (cpuAt (s .cpus) at .registers) r v; mode = cpuAt (s .cpus) at .mode }))) → x ≡ replied (judge s (callOf c (Load r v)) 0)
+      → x ≡ reply (Done 0) (withCpus s (set (s .cpus) at (record { registers = set (cpuAt (s .cpus) at .registers) r v; mode = cpuAt (s .cpus) at .mode }))) → x ≡ replied s (judge s (callOf c (Load r v)) 0)
   unfolding judge goodCaller enrols choose arguments checkAll perform load replied
   load-done r v x b p = go-on _ s _ _ _ caller (go-on _ s _ _ _ (le-leb r 15 b) (rw own at p))
 
   -- MODE's last check reads the guest at the caller's place
   module _ (m : ℕ) (b : m ≤ 1) where
-    pub mode-refused : implies (eqb m 1) (getD (s .guests) at noGuest .asf) ≡ false → reply SpecialOperation s ≡ replied (judge s (callOf c (Mode m)) 0)
+    pub mode-refused : implies (eqb m 1) (getD (s .guests) at noGuest .asf) ≡ false → reply SpecialOperation s ≡ replied s (judge s (callOf c (Mode m)) 0)
     unfolding judge goodCaller enrols choose arguments checkAll perform mode
     mode-refused n = go-on _ s _ _ _ caller (go-on _ s _ _ _ (le-leb m 1 b) (refuse-at s _ _ _ (rw own at n)))
 
     pub mode-done : (x : Reply) → implies (eqb m 1) (getD (s .guests) at noGuest .asf) ≡ true
-        → x ≡ reply (Done 0) (withCpus s (set (s .cpus) at (record { registers = cpuAt (s .cpus) at .registers; mode = eqb m 1 }))) → x ≡ replied (judge s (callOf c (Mode m)) 0)
+        → x ≡ reply (Done 0) (withCpus s (set (s .cpus) at (record { registers = cpuAt (s .cpus) at .registers; mode = eqb m 1 }))) → x ≡ replied s (judge s (callOf c (Mode m)) 0)
     unfolding judge goodCaller enrols choose arguments checkAll perform mode replied
     mode-done x y p = go-on _ s _ _ _ caller (go-on _ s _ _ _ (le-leb m 1 b) (go-on _ s _ _ _ (rw own at y) (rw own at p)))

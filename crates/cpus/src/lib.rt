@@ -15,7 +15,7 @@ use model::State;
 
 pub fn load(mut s: State, caller: Caller, register: u32, value: u32) -> Reply
     requires { ⌜ sound s ≡ true ⌝ }
-    ensures { λ r. ⌜ r ≡ replied (judge s (callOf caller (Load register value)) 0) ⌝ }
+    ensures { λ r. ⌜ r ≡ replied s (judge s (callOf caller (Load register value)) 0) ⌝ }
 {
     let gs = s.guests;
     let at = lookup::caller_place(gs, caller.guest);
@@ -55,7 +55,7 @@ fn may_set(mode: u32, asf: bool) -> bool
 
 pub fn mode(mut s: State, caller: Caller, mode: u32) -> Reply
     requires { ⌜ sound s ≡ true ⌝ }
-    ensures { λ r. ⌜ r ≡ replied (judge s (callOf caller (Mode mode)) 0) ⌝ }
+    ensures { λ r. ⌜ r ≡ replied s (judge s (callOf caller (Mode mode)) 0) ⌝ }
 {
     let gs = s.guests;
     let at = lookup::caller_place(gs, caller.guest);

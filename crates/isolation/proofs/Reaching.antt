@@ -13,7 +13,7 @@ use Rattle.model.specs.declared.Standing.the-variants.{Valid}
 use Rattle.model.specs.declared.State.{State}
 use Rattle.model.specs.Answers.{number}
 use Rattle.model.specs.Calls.{goodCaller, enrols, target}
-use Rattle.model.specs.Decision.{Decision, Effect, none, clear, fetch, store}
+use Rattle.model.specs.Decision.{Decision, after, Effect, none, clear, fetch, store}
 use Rattle.model.specs.Granted.{Accessed, Performed, Granted}
 use Rattle.model.specs.Names.{baseName}
 use Rattle.model.specs.Searches.{enrolled, primarySlot}
@@ -96,7 +96,7 @@ module _ (m : Machine) (ready : Ready m) (i : Issue) (d : Decision) (done : numb
   accessed-slot r a storing f en t x = refl
 
   -- a done call, by its operation
-  touched : (k : Operation) → i .call .operation ≡ k → goodCaller (m .tables) (i .call .caller) k ≡ true → Performed (m .tables) (i .call .caller) k (length (i .buffer)) d → Touches m i (d .after) (d .effect)
+  touched : (k : Operation) → i .call .operation ≡ k → goodCaller (m .tables) (i .call .caller) k ≡ true → Performed (m .tables) (i .call .caller) k (length (i .buffer)) d → Touches m i (after (m .tables) d) (d .effect)
   unfolding Performed goodCaller enrols choose
   touched (Enrol pages allowance share list asf) e en p = rw (p .is) tt
   touched (Create name pages) e en p = rw (p .made .is) tt
@@ -112,11 +112,11 @@ module _ (m : Machine) (ready : Ready m) (i : Issue) (d : Decision) (done : numb
   touched (Store register address) e en p = rw (p .is) (accessed register address true (λ u. store u address) en (rw e refl) p)
   touched Reset e en p = rw (p .is) tt
 
-pub touches : (m : Machine) → Ready m → (i : Issue) → Touches m i (decision m i .after) (decision m i .effect)
+pub touches : (m : Machine) → Ready m → (i : Issue) → Touches m i (after (m .tables) (decision m i)) (decision m i .effect)
 unfolding step
 touches m ready i = go (verdict (m .tables) (length (m .scratch)) (i .call) (length (i .buffer)))
   where
-    go : Verdict (m .tables) (row (i .call .operation)) (Granted (m .tables) (length (m .scratch)) (i .call) (length (i .buffer))) (decision m i) → Touches m i (decision m i .after) (decision m i .effect)
+    go : Verdict (row (i .call .operation)) (Granted (m .tables) (length (m .scratch)) (i .call) (length (i .buffer))) (decision m i) → Touches m i (after (m .tables) (decision m i)) (decision m i .effect)
     go (refused r) = rw (r .is) tt
     go (granted g) =
         touched m ready i (decision m i) (performed-number (m .tables) (i .call .caller) (i .call .operation) (length (i .buffer)) (decision m i) (g .performed))

@@ -21,7 +21,7 @@ use Rattle.model.specs.declared.State.{State}
 use Rattle.model.specs.Answers.{number, value}
 use Rattle.model.specs.Arguments.{arguments}
 use Rattle.model.specs.Calls.{entitled, enrols, goodCaller}
-use Rattle.model.specs.Decision.{Decision}
+use Rattle.model.specs.Decision.{Decision, after}
 use Rattle.model.specs.Fresh.{emptyTables}
 use Rattle.model.specs.Granted.{Performed, AllFit, Granted}
 use Rattle.model.specs.Searches.{slotOf}
@@ -45,7 +45,7 @@ use Rattle.isolation.proofs.RecordWithdrawn.{destroy-told, isolate-told
 module _ (s : State) (m : Memory) (ok : Sound s) (rem : Remembers s m) (c : Caller) where
   -- every done call
   performed-told : (k : Operation) (n : ℕ) (d : Decision) → goodCaller s c k ≡ true → AllFit (arguments (s .guests) c k n) → Performed s c k n d
-      → Remembers (d .after) (told (deedDone c k (value (d .answer))) m)
+      → Remembers (after s d) (told (deedDone c k (value (d .answer))) m)
   unfolding goodCaller enrols choose arguments AllFit Performed deedDone ownerBy homeBy grantBy tokenBy modeBy loadBy
   performed-told (Enrol pages allowance share list asf) n d e fit p = enrol-told s m ok rem (c .guest) pages allowance share list asf d (may-enrol s (c .guest) e .1) p
   performed-told (Create name pages) n d e fit p = create-told s m ok rem (c .guest) name pages d e p
@@ -107,15 +107,15 @@ recorded-step m i h ready rec = go (verdict (m .tables) (length (m .scratch)) (i
     s : State
     s = m .tables
 
-    go : Verdict s (row (i .call .operation)) (Granted s (length (m .scratch)) (i .call) (length (i .buffer))) (decision m i) → Recorded (decision m i .after) (eventOf m i ∷ h)
+    go : Verdict (row (i .call .operation)) (Granted s (length (m .scratch)) (i .call) (length (i .buffer))) (decision m i) → Recorded (after (m .tables) (decision m i)) (eventOf m i ∷ h)
     go (refused r) =
         let ne : number (decision m i .answer) ≢ 0 = rw (r .is) (eqb-false _ 0 (r .not-done)) in
-        one-more (decision m i .after) (eventOf m i) h nothing (refused-deed (i .call) _ _ ne) (rec .proper) (rw (r .is) (rec .remembers)) tt
+        one-more (after (m .tables) (decision m i)) (eventOf m i) h nothing (refused-deed (i .call) _ _ ne) (rec .proper) (rw (r .is) (rec .remembers)) tt
     go (granted g) =
         let c = i .call .caller in
         let k = i .call .operation in
         let n = length (i .buffer) in
-        one-more (decision m i .after) (eventOf m i) h (deedDone c k (value (decision m i .answer)))
+        one-more (after (m .tables) (decision m i)) (eventOf m i) h (deedDone c k (value (decision m i .answer)))
         (ap (λ a. deedOf (i .call) a (value (decision m i .answer))) (performed-number s c k n (decision m i) (g .performed))) (rec .proper)
         (performed-told s (memory h) (ready .sound) (rec .remembers) c k n (decision m i) (g .caller) (g .arguments) (g .performed))
         (performed-rightful s (memory h) (ready .sound) (rec .remembers) c k n (decision m i) (g .caller) (g .performed))

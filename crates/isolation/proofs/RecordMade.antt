@@ -1,12 +1,12 @@
 -- ENROL and CREATE: a new space stands in a free slot with an identification of which the record knew nothing, and the memory
 -- follows it. They differ in the guest's home alone. Assumes nothing.
-use Prim.Native.Nat.{ℕ, _≤_, _<_}
+use Prim.Native.Nat.{ℕ, _+_, _≤_, _<_}
 use mathlib.Core.Bool.{true, false}
 use mathlib.Core.List.{List}
 use mathlib.Core.Path.{_≡_, refl, sym, _∙_}
 use native.Mathlib.Omega.{arith}
 use lib.Dec.{eqb}
-use lib.ListN.{length}
+use lib.ListN.{set, length}
 use borrow.Author.Tests.{eq-eqb, ne-eqb}
 use Rattle.lists.specs.Choice.{choose}
 use Rattle.lists.proofs.Choice.{true-false, not-so, yes!, no! }
@@ -16,13 +16,16 @@ use Rattle.model.specs.declared.Guest.{Guest}
 use Rattle.model.specs.declared.Space.{Space}
 use Rattle.model.specs.declared.State.{State}
 use Rattle.model.specs.Answers.{value}
-use Rattle.model.specs.Calls.{made, withEnrolled}
-use Rattle.model.specs.Decision.{Decision}
+use Rattle.model.specs.declared.Change.{Change}
+use Rattle.model.specs.declared.Change.the-variants.{AddGuest}
+use Rattle.model.specs.Applied.{applied}
+use Rattle.model.specs.Calls.{newSpace, newGuest}
+use Rattle.model.specs.Decision.{Decision, after}
 use Rattle.model.specs.Granted.{Made, Created}
 use Rattle.model.specs.Names.{baseName}
 use Rattle.model.specs.Searches.{enrolled, freeSlot, freeRun, primarySlot}
 use Rattle.model.specs.Sound.{Live, IsGuest, Sound}
-use Rattle.model.specs.Tables.{noSpace, spaceAt, guestAt, grantAt, entryAt, withGuests}
+use Rattle.model.specs.Tables.{noSpace, spaceAt, guestAt, grantAt, entryAt, guestPlace, withNext, withSpaces, withGuests}
 use Rattle.model.specs.Tokens.{entryNumber}
 use Rattle.model.proofs.Entries.{nothing-allowed}
 use Rattle.model.proofs.NewSpace.{stands}
@@ -35,12 +38,13 @@ use Rattle.isolation.proofs.Record.{Memory, told, Remembers, gives-same
 
 module _ (s : State) (m : Memory) (ok : Sound s) (rem : Remembers s m) where
   -- the law of both: hs are the guests after the call, `home` says where each guest's home is then
-  made-told : (hs : List Guest) (g name pages : ℕ) (d : Decision) (home : ℕ → ℕ) → Made s (withGuests s hs) g name pages d
+  made-told : (hs : List Guest) (g name pages : ℕ) (c : Change) (d : Decision) (home : ℕ → ℕ)
+      → applied s c ≡ withNext (withSpaces (withGuests s hs) (set (s .spaces) (freeSlot (s .spaces)) (newSpace s g name pages))) (s .next + 1) → Made s pages c d
       → (name ≡ baseName → home g ≡ s .next)
       → ((u : ℕ) → Live (s .spaces) u → home (spaceAt (s .spaces) u .owner) ≡ m .home (spaceAt (s .spaces) u .owner))
-      → Remembers (d .after) (record { owner = λ x. choose (eqb (s .next) x) g (m .owner x); home = home; grant = m .grant; token = m .token; mode = m .mode; load = m .load })
-  unfolding made
-  made-told hs g name pages d home done new-home old-home = rw (done .is) (record {
+      → Remembers (after s d) (record { owner = λ x. choose (eqb (s .next) x) g (m .owner x); home = home; grant = m .grant; token = m .token; mode = m .mode; load = m .load })
+  unfolding newSpace
+  made-told hs g name pages c d home to done new-home old-home = rw (done .is, to) (record {
     owners = λ u. at-set (λ y. 1 ≤ y .id → choose (eqb (s .next) (y .id)) g (m .owner (y .id)) ≡ y .owner) (s .spaces) j x u noSpace inside
         (λ _ _. yes! _ _ (eq-eqb (s .next) _ refl))
         (λ _ l. no! _ _ (ne-eqb (s .next) _ (λ e. omega (arith, ok .spaces .id-below u l))) ∙ rem .owners u l);
@@ -78,16 +82,16 @@ module _ (s : State) (m : Memory) (ok : Sound s) (rem : Remembers s m) where
 
   -- ENROL: no space had that owner
   pub enrol-told : (g pages allowance share list asf : ℕ) (d : Decision) → guestAt (s .guests) g .enrolled ≡ false
-      → Made s (withEnrolled s g allowance share list asf) g baseName pages d → Remembers (d .after) (told (Deed.enrolled g (value (d .answer))) m)
-  unfolding withEnrolled value ownerBy homeBy grantBy tokenBy modeBy loadBy
+      → Made s pages (AddGuest (freeSlot (s .spaces)) (newSpace s g baseName pages) (guestPlace g) (newGuest allowance share list asf)) d → Remembers (after s d) (told (Deed.enrolled g (value (d .answer))) m)
+  unfolding newGuest newSpace value ownerBy homeBy grantBy tokenBy modeBy loadBy
   enrol-told g pages allowance share list asf d out done = rw (done .is) (rw (done .is) at
-      (made-told _ g baseName pages d (λ h. choose (eqb g h) (s .next) (m .home h)) done (λ _. yes! _ _ (eq-eqb g g refl))
+      (made-told _ g baseName pages _ d (λ h. choose (eqb g h) (s .next) (m .home h)) refl done (λ _. yes! _ _ (eq-eqb g g refl))
       (λ u l. no! _ _ (ne-eqb g _ (λ e. true-false (enrolled-is (s .guests) _ (ok .spaces .owner u l)) (rw (← e) out))))))
 
   -- CREATE: the name is not BASE, for the caller has a space of that name
-  pub create-told : (g name pages : ℕ) (d : Decision) → enrolled (s .guests) g ≡ true → Created s g name pages d → Remembers (d .after) (told (created g (value (d .answer))) m)
+  pub create-told : (g name pages : ℕ) (d : Decision) → enrolled (s .guests) g ≡ true → Created s g name pages d → Remembers (after s d) (told (created g (value (d .answer))) m)
   unfolding primarySlot value ownerBy homeBy grantBy tokenBy modeBy loadBy
   create-told g name pages d on done =
       rw (done .made .is) (rw (done .made .is) at
-      (made-told (s .guests) g name pages d (m .home) (done .made)
+      (made-told (s .guests) g name pages _ d (m .home) refl (done .made)
       (λ q. absurd (omega (arith, primary-lt (s .spaces) g (ok .guests .primary g on), rw q at (done .new)))) (λ u l. refl)))

@@ -22,7 +22,7 @@ use Rattle.model.specs.declared.Standing.the-variants.{Valid}
 use Rattle.model.specs.declared.State.{State}
 use Rattle.model.specs.Answers.{value}
 use Rattle.model.specs.Changes.{raised, released}
-use Rattle.model.specs.Decision.{Decision}
+use Rattle.model.specs.Decision.{Decision, after}
 use Rattle.model.specs.Granted.{Permitted, Added, Removed, Loaded, ModeSet, addedEntry}
 use Rattle.model.specs.Searches.{enrolled, slotOf}
 use Rattle.model.specs.Sound.{Live, IsGuest, IsEntry, Sound}
@@ -63,7 +63,7 @@ module _ (s : State) (m : Memory) (ok : Sound s) (rem : Remembers s m) where
       one : (b : Caller) → IsGuest (b .guest) → cpuPlace b ≡ cpuPlace c → b ≡ c
       one b j q = ap (λ g. record { guest = g }) (same-guest (c .guest) (b .guest) i j q)
 
-  pub load-told : (c : Caller) (r v : ℕ) (d : Decision) → IsGuest (c .guest) → r ≤ 15 → Loaded s c r v d → Remembers (d .after) (told (loaded c r v) m)
+  pub load-told : (c : Caller) (r v : ℕ) (d : Decision) → IsGuest (c .guest) → r ≤ 15 → Loaded s c r v d → Remembers (after s d) (told (loaded c r v) m)
   unfolding ownerBy homeBy grantBy tokenBy modeBy loadBy
   load-told c r v d i b done =
       let old = cpuAt (s .cpus) (cpuPlace c) .registers in
@@ -74,7 +74,7 @@ module _ (s : State) (m : Memory) (ok : Sound s) (rem : Remembers s m) where
       (λ n. no! _ _ (other-pair (c .guest) (c .guest) r q (λ _ e. n (sym e))) ∙ rem .loads c q i l))
       (λ a q n. no! _ _ (other-pair (c .guest) (a .guest) r q (λ e _. n (sym e)))))
 
-  pub mode-told : (c : Caller) (k : ℕ) (d : Decision) → IsGuest (c .guest) → ModeSet s c k d → Remembers (d .after) (told (switched c k) m)
+  pub mode-told : (c : Caller) (k : ℕ) (d : Decision) → IsGuest (c .guest) → ModeSet s c k d → Remembers (after s d) (told (switched c k) m)
   unfolding ownerBy homeBy grantBy tokenBy modeBy loadBy
   mode-told c k d i done =
       rw (done .is)
@@ -82,7 +82,7 @@ module _ (s : State) (m : Memory) (ok : Sound s) (rem : Remembers s m) where
       (λ a n. no! _ _ (ne-eqb (c .guest) (a .guest) (λ e. n (sym e)))) (λ q l. rem .loads c q i l) (λ _ _ _. refl))
 
   -- PERMIT raises one permit, that of guest h for the slot of the space i. No other slot has that identification.
-  pub permit-told : (g i h : ℕ) (r : Right) (d : Decision) → IsGuest h → Permitted s g i h r d → Remembers (d .after) (told (permitted g i h r) m)
+  pub permit-told : (g i h : ℕ) (r : Right) (d : Decision) → IsGuest h → Permitted s g i h r d → Remembers (after s d) (told (permitted g i h r) m)
   unfolding ownerBy homeBy grantBy tokenBy modeBy loadBy
   permit-told g i h r d j done = rw (done .is) (record {
     owners = rem .owners;
@@ -152,7 +152,7 @@ module _ (s : State) (m : Memory) (ok : Sound s) (rem : Remembers s m) where
               ∙ others (upperHalf t) (λ q. ne (omega (arith, p .1)))
 
   -- ADD takes an unused entry and leaves its sequence
-  pub add-told : (g i : ℕ) (r : Right) (d : Decision) → enrolled (s .guests) g ≡ true → Added s g i r d → Remembers (d .after) (told (added g i r (value (d .answer))) m)
+  pub add-told : (g i : ℕ) (r : Right) (d : Decision) → enrolled (s .guests) g ≡ true → Added s g i r d → Remembers (after s d) (told (added g i r (value (d .answer))) m)
   unfolding value ownerBy homeBy grantBy tokenBy modeBy loadBy standingGives
   add-told g i r d on done =
       let n = addedEntry s g in
@@ -171,7 +171,7 @@ module _ (s : State) (m : Memory) (ok : Sound s) (rem : Remembers s m) where
       (λ q ne. rw number (gives-unused (s .spaces) old q unused ∙ sym (gives-other (s .spaces) new q (λ e. ne (sym e ∙ sym upper)))))))
 
   -- REMOVE leaves an entry unused, and the token removed had its sequence
-  pub remove-told : (g t : ℕ) (d : Decision) → IsGuest g → Removed s g t d → Remembers (d .after) (told (removed g t) m)
+  pub remove-told : (g t : ℕ) (d : Decision) → IsGuest g → Removed s g t d → Remembers (after s d) (told (removed g t) m)
   unfolding ownerBy homeBy grantBy tokenBy modeBy loadBy
   remove-told g t d guest done =
       let old = entryAt (s .entries) g (entryNumber t) in

@@ -17,9 +17,9 @@ use Rattle.model.specs.declared.Space.{Space}
 use Rattle.model.specs.declared.Standing.{Standing}
 use Rattle.model.specs.declared.Standing.the-variants.{Unused, Valid, Revoked}
 use Rattle.model.specs.declared.State.{State}
-use Rattle.model.specs.Calls.{resetTables}
+use Rattle.model.specs.Applied.{resetTables}
 use Rattle.model.specs.Changes.{revokedFrom, revoked, releasedAll, loses, withdrawn}
-use Rattle.model.specs.Decision.{Decision}
+use Rattle.model.specs.Decision.{Decision, after}
 use Rattle.model.specs.Granted.{Destroyed, Isolated, ResetDone}
 use Rattle.model.specs.Searches.{isOwned, isData, slotOf}
 use Rattle.model.specs.Sound.{Live, IsGuest, Sound}
@@ -105,7 +105,7 @@ module _ (s : State) (m : Memory) (ok : Sound s) (rem : Remembers s m) where
         (λ u k. withdrawn-kept s gone closed u (kept-space (s .spaces) gone closed g u k)))
 
   -- DESTROY: every entry for the space is lost
-  pub destroy-told : (g i : ℕ) (d : Decision) → Destroyed s g i d → Remembers (d .after) (told (destroyed g i) m)
+  pub destroy-told : (g i : ℕ) (d : Decision) → Destroyed s g i d → Remembers (after s d) (told (destroyed g i) m)
   unfolding ownerBy homeBy grantBy tokenBy modeBy loadBy loses
   destroy-told g i d done =
       let one = eqb (slotOf (s .spaces) i) in
@@ -114,7 +114,7 @@ module _ (s : State) (m : Memory) (ok : Sound s) (rem : Remembers s m) where
       (λ h t j z f. token-withdrawn one one (eqb i) h t j z f (λ u l. id-slot s ok i u (done .owning .slot) l ∙ sym (absorbed (one u) _))))
 
   -- ISOLATE: every entry for it but the owner's
-  pub isolate-told : (g i : ℕ) (d : Decision) → Isolated s g i d → Remembers (d .after) (told (isolated g i) m)
+  pub isolate-told : (g i : ℕ) (d : Decision) → Isolated s g i d → Remembers (after s d) (told (isolated g i) m)
   unfolding ownerBy homeBy grantBy tokenBy modeBy loadBy loses either
   isolate-told g i d done =
       let one = eqb (slotOf (s .spaces) i) in
@@ -123,7 +123,7 @@ module _ (s : State) (m : Memory) (ok : Sound s) (rem : Remembers s m) where
       (λ h t j z f. token-withdrawn (λ v. false) one _ h t j z f (λ u l. rw (id-slot s ok i u (done .owning .slot) l, rem .owners u l) refl)))
 
   -- RESET: the caller's own entries are released; others lose every entry for a space of the caller
-  pub reset-told : (g : ℕ) (d : Decision) → IsGuest g → ResetDone s g d → Remembers (d .after) (told (reset g) m)
+  pub reset-told : (g : ℕ) (d : Decision) → IsGuest g → ResetDone s g d → Remembers (after s d) (told (reset g) m)
   unfolding ownerBy homeBy grantBy tokenBy modeBy loadBy resetTables loses
   reset-told g d i done =
       rw (done .is)

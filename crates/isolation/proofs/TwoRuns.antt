@@ -13,7 +13,7 @@ use Rattle.lists.proofs.Choice.{true-false, not-so}
 use Rattle.model.specs.declared.Space.{Space}
 use Rattle.model.specs.declared.State.{State}
 use Rattle.model.specs.Answers.{number, value}
-use Rattle.model.specs.Decision.{Decision, Effect, none, clear, fetch, store}
+use Rattle.model.specs.Decision.{Decision, after, Effect, none, clear, fetch, store}
 use Rattle.model.specs.Frames.{layout, placeOf, bytesOf, framesOf}
 use Rattle.model.specs.Lawful.{SameSpace, ClearsSpace, Inside, EffectInside, Lawful}
 use Rattle.model.specs.Sound.{Live, Sound}
@@ -35,11 +35,11 @@ same-bytes s t u m same =
     (ap (λ (x : Space). x .pages * 4096) (same .space))
 
 -- One decision on two scratch areas that agree outside X. `s` are the tables before it, `d` the decision.
-module _ (X : ℕ → Bool) (s : State) (d : Decision) (ok : Sound (d .after)) (b₁ b₂ m₁ m₂ : List ℕ) (law : Lawful s (length b₁) d)
-    (room₁ : length m₁ ≡ d .after .frames * 4096) (room₂ : length m₂ ≡ d .after .frames * 4096) (long : length b₁ ≡ length b₂)
+module _ (X : ℕ → Bool) (s : State) (d : Decision) (ok : Sound (after s d)) (b₁ b₂ m₁ m₂ : List ℕ) (law : Lawful s (length b₁) d)
+    (room₁ : length m₁ ≡ after s d .frames * 4096) (room₂ : length m₂ ≡ after s d .frames * 4096) (long : length b₁ ≡ length b₂)
     (agree : EqualOutside X s m₁ m₂) where
   abbrev t : State
-  t = d .after
+  t = after s d
 
   -- a space live after it agreed before, or is cleared by it
   before : (u : ℕ) → Live (t .spaces) u → X (spaceAt (t .spaces) u .id) ≡ false → (bytesOf t u m₁ ≡ bytesOf t u m₂) ⊎ ClearsSpace t (d .effect) u
@@ -119,31 +119,31 @@ module _ (X : ℕ → Bool) (m₁ m₂ : Machine) (ready : Ready m₁) (alike : 
   after-ready = ready-kept m₁ i ready
 
   -- a touched space is the one that is reached
-  touched-reach : (u a : ℕ) → (d .effect ≡ store u a) ⊎ (d .effect ≡ fetch u a) → Reaches m₁ i (spaceAt (d .after .spaces) u .id)
+  touched-reach : (u a : ℕ) → (d .effect ≡ store u a) ⊎ (d .effect ≡ fetch u a) → Reaches m₁ i (spaceAt (after (m₁ .tables) d .spaces) u .id)
   touched-reach u a (inl e) = rw e at (touches m₁ ready i)
   touched-reach u a (inr e) = rw e at (touches m₁ ready i)
 
-  reach : (u a : ℕ) → (d .effect ≡ store u a) ⊎ (d .effect ≡ fetch u a) → X (spaceAt (d .after .spaces) u .id) ≡ true → ReachesIn X m₁ i
-  reach u a k x = record { id = spaceAt (d .after .spaces) u .id; reaches = touched-reach u a k; inside = x }
+  reach : (u a : ℕ) → (d .effect ≡ store u a) ⊎ (d .effect ≡ fetch u a) → X (spaceAt (after (m₁ .tables) d .spaces) u .id) ≡ true → ReachesIn X m₁ i
+  reach u a k x = record { id = spaceAt (after (m₁ .tables) d .spaces) u .id; reaches = touched-reach u a k; inside = x }
 
-  only : (u a : ℕ) → (d .effect ≡ store u a) ⊎ (d .effect ≡ fetch u a) → ReachesIn X m₁ i → X (spaceAt (d .after .spaces) u .id) ≡ true
-  only u a k r = ap X (reaches-one m₁ ready i (spaceAt (d .after .spaces) u .id) (r .id) (touched-reach u a k) (r .reaches)) ∙ r .inside
+  only : (u a : ℕ) → (d .effect ≡ store u a) ⊎ (d .effect ≡ fetch u a) → ReachesIn X m₁ i → X (spaceAt (after (m₁ .tables) d .spaces) u .id) ≡ true
+  only u a k r = ap X (reaches-one m₁ ready i (spaceAt (after (m₁ .tables) d .spaces) u .id) (r .id) (touched-reach u a k) (r .reaches)) ∙ r .inside
 
   same-call : SameCall X m₁ m₂ i j
   unfolding step
   same-call =
       let law = lawful (m₁ .tables) (length (m₁ .scratch)) (i .call) (length (i .buffer)) (ready .sound) in
-      let room₁ : length (m₁ .scratch) ≡ d .after .frames * 4096 = ready .room ∙ ap (λ f. f * 4096) (sym (law .frames)) in
-      let room₂ : length (m₂ .scratch) ≡ d .after .frames * 4096 = sym (alike .room) ∙ room₁ in
+      let room₁ : length (m₁ .scratch) ≡ after (m₁ .tables) d .frames * 4096 = ready .room ∙ ap (λ f. f * 4096) (sym (law .frames)) in
+      let room₂ : length (m₂ .scratch) ≡ after (m₁ .tables) d .frames * 4096 = sym (alike .room) ∙ room₁ in
       record {
         answer = ap (λ (x : Decision). number (x .answer)) same-decision;
         value = ap (λ (x : Decision). value (x .answer)) same-decision;
         alike = record {
-          tables = ap (λ (x : Decision). x .after) same-decision;
+          tables = ap₂ (λ (x : State) (y : Decision). after x y) (alike .tables) same-decision;
           room = length-scratchAfter _ (decision m₁ i .effect) (m₁ .scratch) (i .buffer) ∙ alike .room ∙ sym (length-scratchAfter _ (decision m₂ j .effect) (m₂ .scratch) (j .buffer));
-          bytes = rw (← same-decision) (effect-bytes X (m₁ .tables) d (after-ready .sound) (i .buffer) (j .buffer) (m₁ .scratch) (m₂ .scratch) law room₁ room₂ (may .lengths) (alike .bytes) (ReachesIn X m₁ i) reach only (may .same) (d .effect) refl (law .inside));
+          bytes = rw (← same-decision, ← alike .tables) (effect-bytes X (m₁ .tables) d (after-ready .sound) (i .buffer) (j .buffer) (m₁ .scratch) (m₂ .scratch) law room₁ room₂ (may .lengths) (alike .bytes) (ReachesIn X m₁ i) reach only (may .same) (d .effect) refl (law .inside));
         };
-        buffer = λ away. rw (← same-decision) (effect-buffer X (m₁ .tables) d (after-ready .sound) (i .buffer) (j .buffer) (m₁ .scratch) (m₂ .scratch) law room₁ room₂ (may .lengths) (alike .bytes) (ReachesIn X m₁ i) reach only (may .same) (d .effect) refl (law .inside) away);
+        buffer = λ away. rw (← same-decision, ← alike .tables) (effect-buffer X (m₁ .tables) d (after-ready .sound) (i .buffer) (j .buffer) (m₁ .scratch) (m₂ .scratch) law room₁ room₂ (may .lengths) (alike .bytes) (ReachesIn X m₁ i) reach only (may .same) (d .effect) refl (law .inside) away);
       }
 
 -- a larger set leaves less to agree

@@ -22,7 +22,7 @@ use Rattle.model.specs.declared.Reply.{Reply}
 use Rattle.model.specs.declared.Space.{Space}
 use Rattle.model.specs.declared.State.{State}
 use Rattle.model.specs.Arguments.{arguments, checkAll}
-use Rattle.model.specs.Calls.{made, making, create, perform, enrols, goodCaller, judge}
+use Rattle.model.specs.Calls.{newSpace, making, create, perform, enrols, goodCaller, judge}
 use Rattle.model.specs.Decision.{Decision, check}
 use Rattle.model.specs.Frames.{layout, frameOf, framesOf}
 use Rattle.model.specs.Leaves.{callerPlace}
@@ -36,15 +36,15 @@ use Rattle.model.proofs.Rules.{check-yes, check-no, place-yes, place-is}
 use Rattle.model.proofs.Runs.{lowest-run}
 use Rattle.model.proofs.Searches.{enrolled-guest}
 use Rattle.model.proofs.SoundTest.{sound-decides}
-use Rattle.making.specs.Made.{MadeBy}
+use Rattle.making.specs.Made.{MadeBy, Makes}
 use Rattle.making.proofs.Clear.{clear-run}
 
-pub stops : (s : State) (b : Bool) (a : Answer) (d : Decision) (m : List ℕ) → b ≡ false → MadeBy (check s b a d) (reply a s) m m
+pub stops : (s : State) (b : Bool) (a : Answer) (d : Decision) (m : List ℕ) → b ≡ false → MadeBy s (check b a d) (reply a s) m m
 unfolding replied scratchAfter
-stops s b a d m e = rw (check-no s a d e) (record { reply = refl; scratch = refl })
+stops s b a d m e = rw (check-no a d e) (record { reply = refl; scratch = refl })
 
-pub goes : (r : Reply) (s : State) (b : Bool) (a : Answer) (d : Decision) (m m' : List ℕ) → b ≡ true → MadeBy d r m m' → MadeBy (check s b a d) r m m'
-goes r s b a d m m' e p = rw (check-yes s a d e) p
+pub goes : (r : Reply) (s : State) (b : Bool) (a : Answer) (d : Decision) (m m' : List ℕ) → b ≡ true → MadeBy s d r m m' → MadeBy s (check b a d) r m m'
+goes r s b a d m m' e p = rw (check-yes a d e) p
 
 pub ruleset steps = (stops, goes)
 
@@ -59,8 +59,8 @@ module _ (s : State) (guests : List Guest) (owner name pages slot first : ℕ) (
   abbrev t : State
   t = withNext (withSpaces (withGuests s guests) (set (s .spaces) slot new)) (s .next + 1)
 
-  state-is : made s (withGuests s guests) owner name pages ≡ t
-  unfolding made
+  state-is : withNext (withSpaces (withGuests s guests) (set (s .spaces) (freeSlot (s .spaces)) (newSpace s owner name pages))) (s .next + 1) ≡ t
+  unfolding newSpace
   state-is = rw (slot-is, first-is) refl
 
   fits : first * 4096 + pages * 4096 ≤ length m
@@ -87,15 +87,16 @@ module _ (s : State) (guests : List Guest) (owner name pages slot first : ℕ) (
   clear-fits = simp (length-take, length-drop) (omega (arith, fits))
 
   pub make-done : (y : List ℕ) → y ≡ over (take (length m - first * 4096) (drop (first * 4096) m)) 0 (replicate (pages * 4096) 0)
-      → MadeBy (making s (withGuests s guests) owner name pages) (reply (Done (s .next)) t) m (take (first * 4096) m ++ (y ++ drop (length m - first * 4096) (drop (first * 4096) m)))
+      → Makes s guests owner name pages (reply (Done (s .next)) t) m (take (first * 4096) m ++ (y ++ drop (length m - first * 4096) (drop (first * 4096) m)))
   unfolding making replied scratchAfter
-  make-done y z =
+  make-done y z k to =
+      let now = sym (to ∙ state-is) in
       goes _ s _ _ _ m _ (rw (← slot-is) (lt-ltb slot 32 slot-lt))
       (goes _ s _ _ _ m _ (lt-ltb (s .next) 65536 next-lt)
       (goes _ s _ _ _ m _ (rw (← first-is) (lt-ltb first (s .frames) first-lt))
       (record {
-        reply = ap (reply (Done (s .next))) (sym state-is);
-        scratch = over-lent m (replicate (pages * 4096) 0) y (first * 4096) z ∙ sym frames-are ∙ ap₂ (λ (x : State) u. clearFrames (framesOf x u) m) (sym state-is) slot-is;
+        reply = ap (reply (Done (s .next))) now;
+        scratch = over-lent m (replicate (pages * 4096) 0) y (first * 4096) z ∙ sym frames-are ∙ ap₂ (λ (x : State) u. clearFrames (framesOf x u) m) now slot-is;
       })))
 
 pub first-small : (s : State) (first : ℕ) → sound s ≡ true → first < s .frames → first < 65536
@@ -108,7 +109,7 @@ owner-small gs g at e l = enrolled-guest gs g (place-yes at gs g e l) .high
 -- CREATE after the checks 2 and 3, and its own
 module _ (s : State) (c : Caller) (name pages at : ℕ) (gs : List Guest) (good : Bool) (m : List ℕ) where
   checked : (r : Reply) (m' : List ℕ) → at ≡ callerPlace gs (c .guest) → gs ≡ s .guests → at < 8 → good ≡ goodName name → not good ≡ false → (pages ≡ 0 → ⊥) → pages ≤ 512
-      → MadeBy (create s (c .guest) name pages) r m m' → MadeBy (judge s (callOf c (Create name pages)) 0) r m m'
+      → MadeBy s (create s (c .guest) name pages) r m m' → MadeBy s (judge s (callOf c (Create name pages)) 0) r m m'
   unfolding judge goodCaller enrols choose arguments checkAll perform
   checked r m' e q l g ng p0 p1 inner =
       goes r s _ _ _ m m' (rw (← q) (place-yes at gs (c .guest) e l))
@@ -116,7 +117,7 @@ module _ (s : State) (c : Caller) (name pages at : ℕ) (gs : List Guest) (good 
       (goes r s _ _ _ m m' (both-intro _ _ (le-leb 1 pages (omega arith)) (le-leb pages 512 p1)) inner))
 
   pub create-named : (u : ℕ) → at ≡ callerPlace gs (c .guest) → gs ≡ s .guests → at < 8 → good ≡ goodName name → not good ≡ false → (pages ≡ 0 → ⊥) → pages ≤ 512
-      → u ≡ slotNamed (s .spaces) (c .guest) name → u < 32 → MadeBy (judge s (callOf c (Create name pages)) 0) (reply NameTaken s) m m
+      → u ≡ slotNamed (s .spaces) (c .guest) name → u < 32 → MadeBy s (judge s (callOf c (Create name pages)) 0) (reply NameTaken s) m m
   unfolding create
   create-named u e q l g ng p0 p1 ue ul = checked (reply NameTaken s) m e q l g ng p0 p1 (stops s _ _ _ m (rw (← ue) (lt-leb 32 u ul)))
 
@@ -126,7 +127,7 @@ module _ (s : State) (c : Caller) (name pages at : ℕ) (gs : List Guest) (good 
 
   pub create-full : (u n : ℕ) → at ≡ callerPlace gs (c .guest) → gs ≡ s .guests → at < 8 → good ≡ goodName name → not good ≡ false → (pages ≡ 0 → ⊥) → pages ≤ 512
       → u ≡ slotNamed (s .spaces) (c .guest) name → 32 ≤ u → n ≡ dataSpaces (s .spaces) (c .guest) → n ≡ getD gs at noGuest .allowance
-      → MadeBy (judge s (callOf c (Create name pages)) 0) (reply AllowanceUsed s) m m
+      → MadeBy s (judge s (callOf c (Create name pages)) 0) (reply AllowanceUsed s) m m
   unfolding create
   create-full u n e q l g ng p0 p1 ue ul ne nn =
       checked (reply AllowanceUsed s) m e q l g ng p0 p1
@@ -134,9 +135,9 @@ module _ (s : State) (c : Caller) (name pages at : ℕ) (gs : List Guest) (good 
 
   pub create-done : (u n : ℕ) (r : Reply) (m' : List ℕ) → at ≡ callerPlace gs (c .guest) → gs ≡ s .guests → at < 8 → good ≡ goodName name → not good ≡ false → (pages ≡ 0 → ⊥) → pages ≤ 512
       → u ≡ slotNamed (s .spaces) (c .guest) name → 32 ≤ u → n ≡ dataSpaces (s .spaces) (c .guest) → (n ≡ getD gs at noGuest .allowance → ⊥)
-      → MadeBy (making s (withGuests s gs) (c .guest) name pages) r m m' → MadeBy (judge s (callOf c (Create name pages)) 0) r m m'
+      → Makes s gs (c .guest) name pages r m m' → MadeBy s (judge s (callOf c (Create name pages)) 0) r m m'
   unfolding create
   create-done u n r m' e q l g ng p0 p1 ue ul ne nn inner =
       checked r m' e q l g ng p0 p1
       (goes r s _ _ _ m m' (rw (← ue) (le-leb 32 u ul))
-      (goes r s _ _ _ m m' (ap not (ne-eqb _ _ (λ z. nn (ne ∙ z ∙ sym (allowance-is e q l))))) (rw q at inner)))
+      (goes r s _ _ _ m m' (ap not (ne-eqb _ _ (λ z. nn (ne ∙ z ∙ sym (allowance-is e q l))))) ((rw q at inner) _ refl)))

@@ -20,14 +20,14 @@ use Rattle.model.specs.declared.Operation.the-variants.{Enrol}
 use Rattle.model.specs.declared.Reply.{Reply}
 use Rattle.model.specs.declared.State.{State}
 use Rattle.model.specs.Arguments.{arguments, checkAll}
-use Rattle.model.specs.Calls.{making, enrol, perform, enrols, mayEnrol, goodCaller, judge, withEnrolled}
+use Rattle.model.specs.Calls.{making, enrol, perform, enrols, mayEnrol, goodCaller, judge, newGuest}
 use Rattle.model.specs.Decision.{Decision, refuse, check}
 use Rattle.model.specs.Names.{baseName}
 use Rattle.model.specs.Replies.{reply, replied, callOf}
 use Rattle.model.specs.Step.{scratchAfter}
 use Rattle.model.specs.Tables.{guestAt, guestPlace, withGuests}
 use Rattle.making.specs.Enrolling.{newPlace, wrongOf, kindAt}
-use Rattle.making.specs.Made.{MadeBy}
+use Rattle.making.specs.Made.{MadeBy, Makes}
 use Rattle.making.proofs.Done.{stops, goes}
 
 -- check 2
@@ -61,7 +61,7 @@ module _ (gs : List Guest) (g at : ℕ) (is : at ≡ newPlace gs g) where
   new-owner l = guest-high (new-may l)
 
 -- a refusal by a decision that is one
-refused : (s : State) (d : Decision) (a : Answer) (m : List ℕ) → d ≡ refuse s a → MadeBy d (reply a s) m m
+refused : (s : State) (d : Decision) (a : Answer) (m : List ℕ) → d ≡ refuse a → MadeBy s d (reply a s) m m
 unfolding replied scratchAfter
 refused s d a m e = rw e (record { reply = refl; scratch = refl })
 
@@ -70,8 +70,8 @@ abbrev wrong : (a b c d e : Bool) → ℕ
 wrong a b c d e = choose a (choose b (choose c (choose d (choose e 0 6) 5) 4) 3) 2
 
 first-wrong : (s : State) (z : Decision) (a b c d e : Bool) → wrong a b c d e ≢ 0
-    → check s a (Limit Pages 2) (check s b (Limit Allowance 3) (check s c (Limit Flag 4) (check s d (Limit ListSize 5) (check s e (Limit Flag 6) z))))
-    ≡ refuse s (Limit (kindAt (wrong a b c d e)) (wrong a b c d e))
+    → check a (Limit Pages 2) (check b (Limit Allowance 3) (check c (Limit Flag 4) (check d (Limit ListSize 5) (check e (Limit Flag 6) z))))
+    ≡ refuse (Limit (kindAt (wrong a b c d e)) (wrong a b c d e))
 unfolding choose check kindAt
 first-wrong s z false b c d e n = refl
 first-wrong s z true false c d e n = refl
@@ -108,7 +108,7 @@ module _ (pages allowance share list asf w : ℕ) (is : w ≡ wrongOf pages allo
 
 module _ (s : State) (c : Caller) (pages allowance share list asf : ℕ) (gs : List Guest) (at : ℕ) (m : List ℕ) where
   abbrev Made : Reply → List ℕ → Type 0
-  Made r m' = MadeBy (judge s (callOf c (Enrol pages allowance share list asf)) 0) r m m'
+  Made r m' = MadeBy s (judge s (callOf c (Enrol pages allowance share list asf)) 0) r m m'
 
   pub enrol-caller : at ≡ newPlace gs (c .guest) → gs ≡ s .guests → 8 ≤ at → Made (reply BadCaller s) m
   unfolding judge goodCaller enrols choose mayEnrol
@@ -125,10 +125,10 @@ module _ (s : State) (c : Caller) (pages allowance share list asf : ℕ) (gs : L
       (rw (ke, we) (refused s _ (Limit (kindAt (wrongOf pages allowance share list asf)) (wrongOf pages allowance share list asf)) m (first-wrong s _ _ _ _ _ _ (λ z. wn (we ∙ z)))))
 
   pub enrol-done : (w : ℕ) (r : Reply) (m' : List ℕ) → at ≡ newPlace gs (c .guest) → gs ≡ s .guests → at < 8 → w ≡ wrongOf pages allowance share list asf → w ≡ 0
-      → MadeBy (making s (withGuests s (set gs at (record { enrolled = true; allowance = allowance; share = eqb share 1; list = list; asf = eqb asf 1 }))) (c .guest) baseName pages) r m m' → Made r m'
-  unfolding judge goodCaller enrols choose arguments checkAll perform enrol withEnrolled
+      → Makes s (set gs at (record { enrolled = true; allowance = allowance; share = eqb share 1; list = list; asf = eqb asf 1 })) (c .guest) baseName pages r m m' → Made r m'
+  unfolding judge goodCaller enrols choose arguments checkAll perform enrol newGuest
   enrol-done w r m' e q l we wz inner =
       let f = right pages allowance share list asf w we wz in
       goes r s _ _ _ m m' (may-enrol e q l)
       (goes r s _ _ _ m m' (f .0) (goes r s _ _ _ m m' (f .1) (goes r s _ _ _ m m' (f .2) (goes r s _ _ _ m m' (f .3) (goes r s _ _ _ m m' (f .4)
-      (rw (q, new-is gs (c .guest) at e l) at inner))))))
+      ((rw (q, new-is gs (c .guest) at e l) at inner) _ refl))))))

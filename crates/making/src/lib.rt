@@ -3,7 +3,7 @@ ghost use Prim.Native.Nat.{_*_, _≤_};
 ghost use mathlib.Core.Bool.{true};
 ghost use mathlib.Core.Path.{_≡_};
 ghost use lib.ListN.{length};
-ghost use Rattle.making.specs.Made.{MadeBy};
+ghost use Rattle.making.specs.Made.{MadeBy, Makes};
 ghost use Rattle.making.specs.Enrolling.{newPlace, wrongOf, kindAt};
 ghost use Rattle.model.specs.Calls.{judge, making};
 ghost use Rattle.model.specs.Replies.{callOf};
@@ -29,7 +29,7 @@ fn make(
     pages: u32,
 ) -> Reply
     requires { ⌜ (sound s ≡ true) × (length (now scratch) ≡ s .frames * 4096) × (1 ≤ pages) × (pages ≤ 512) × (owner ≤ 8) ⌝ }
-    ensures { λ r. ⌜ MadeBy (making s (withGuests s guests) owner name pages) r (now (scratch .entry)) (now (scratch .exit)) ⌝ }
+    ensures { λ r. ⌜ Makes s guests owner name pages r (now (scratch .entry)) (now (scratch .exit)) ⌝ }
 {
     let ss = s.spaces;
     let slot = lookup::free_slot(ss);
@@ -72,7 +72,7 @@ fn make(
 
 pub fn create(s: State, scratch: &mut [u8], caller: Caller, name: u64, pages: u32) -> Reply
     requires { ⌜ (sound s ≡ true) × (length (now scratch) ≡ s .frames * 4096) ⌝ }
-    ensures { λ r. ⌜ MadeBy (judge s (callOf caller (Create name pages)) 0) r (now (scratch .entry)) (now (scratch .exit)) ⌝ }
+    ensures { λ r. ⌜ MadeBy s (judge s (callOf caller (Create name pages)) 0) r (now (scratch .entry)) (now (scratch .exit)) ⌝ }
 {
     let gs = s.guests;
     let at = lookup::caller_place(gs, caller.guest);
@@ -197,7 +197,7 @@ pub fn enrol(
     asf: u32,
 ) -> Reply
     requires { ⌜ (sound s ≡ true) × (length (now scratch) ≡ s .frames * 4096) ⌝ }
-    ensures { λ r. ⌜ MadeBy (judge s (callOf caller (Enrol pages allowance share list asf)) 0) r (now (scratch .entry)) (now (scratch .exit)) ⌝ }
+    ensures { λ r. ⌜ MadeBy s (judge s (callOf caller (Enrol pages allowance share list asf)) 0) r (now (scratch .entry)) (now (scratch .exit)) ⌝ }
 {
     let mut gs = s.guests;
     let at = new_place(gs, caller.guest);

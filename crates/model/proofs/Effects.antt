@@ -26,7 +26,7 @@ use Rattle.model.specs.Answers.{number, value}
 use Rattle.model.specs.Arguments.{arguments}
 use Rattle.model.specs.Calls.{entitled, enrols, goodCaller, ready, decide}
 use Rattle.model.specs.Changes.{allows, raised, released}
-use Rattle.model.specs.Decision.{Decision}
+use Rattle.model.specs.Decision.{Decision, after}
 use Rattle.model.specs.Granted.{Performed, AllFit, Granted, addedEntry}
 use Rattle.model.specs.Searches.{isUnused, slotOf, slotNamed}
 use Rattle.model.specs.Sound.{Live, IsGuest, IsEntry, Sound}
@@ -125,7 +125,7 @@ pub record QueryEffect (s : State) (g h k : ℕ) (d : Decision) : Type 0 where
   pub owner : spaceAt (s .spaces) slot .owner ≡ h
   pub name : spaceAt (s .spaces) slot .name ≡ k
   pub may : May s g slot Read
-  pub tables : d .after ≡ s
+  pub tables : after s d ≡ s
 
 -- ADD: the lowest unused entry of the guest's L becomes valid for the space with the right asked. "Value: the token."
 pub record AddEffect (s : State) (g i : ℕ) (r : Right) (d : Decision) : Type 0 where
@@ -138,7 +138,7 @@ pub record AddEffect (s : State) (g i : ℕ) (r : Right) (d : Decision) : Type 0
   pub unused : entryAt (s .entries) g number .standing ≡ Unused
   pub lowest : (k : ℕ) → 2 ≤ k → k < number → entryAt (s .entries) g k .standing ≢ Unused
   pub token : value (d .answer) ≡ token (entryAt (s .entries) g number .sequence) number
-  pub entry : OneEntry s (d .after) g number (record { standing = Valid slot r; sequence = entryAt (s .entries) g number .sequence })
+  pub entry : OneEntry s (after s d) g number (record { standing = Valid slot r; sequence = entryAt (s .entries) g number .sequence })
 
 -- REMOVE: "Valid or revoked, the entry becomes unused", and its sequence "goes up by one; it wraps from 255 to 0"
 pub record RemoveEffect (s t : State) (g token : ℕ) : Type 0 where
@@ -169,7 +169,7 @@ module _ (s : State) (m : ℕ) (c : Caller) (n : ℕ) where
   unfolding goodCaller
   guest k e done = enrolled-guest (s .guests) (c .guest) (sym (no! _ _ e) ∙ all k done .caller)
 
-  pub permit-does : (i h : ℕ) (r : Right) → Done (Permit i h r) → PermitEffect s (by (Permit i h r) .after) (c .guest) i h r
+  pub permit-does : (i h : ℕ) (r : Right) → Done (Permit i h r) → PermitEffect s (after s (by (Permit i h r))) (c .guest) i h r
   unfolding Performed arguments AllFit
   permit-does i h r done =
       let p = all (Permit i h r) done .performed in
@@ -220,7 +220,7 @@ module _ (s : State) (m : ℕ) (c : Caller) (n : ℕ) where
         entry = one-entry s g (addedEntry s g) _ (ok (Add i r) done) (guest (Add i r) refl done) entry;
       })
 
-  pub remove-does : (t : ℕ) → Done (Remove t) → RemoveEffect s (by (Remove t) .after) (c .guest) t
+  pub remove-does : (t : ℕ) → Done (Remove t) → RemoveEffect s (after s (by (Remove t))) (c .guest) t
   unfolding Performed enrols isUnused
   remove-does t done =
       let p = all (Remove t) done .performed in

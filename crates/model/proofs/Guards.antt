@@ -140,12 +140,12 @@ unfolding firstFailed
 stop a b cs e = sym (no! (firstFailed cs) a e)
 
 module _ (s : State) where
-  first : (b : Bool) (a : Answer) (d : Decision) (cs : List Check) → number (d .answer) ≡ firstFailed cs → number (check s b a d .answer) ≡ firstFailed (test (number a) b ∷ cs)
+  first : (b : Bool) (a : Answer) (d : Decision) (cs : List Check) → number (d .answer) ≡ firstFailed cs → number (check b a d .answer) ≡ firstFailed (test (number a) b ∷ cs)
   unfolding check
   first true a d cs e = pass (number a) true cs refl e
   first false a d cs e = stop (number a) false cs refl
 
-  first-limits : (args : List Argument) (d : Decision) (cs : List Check) → number (d .answer) ≡ firstFailed cs → number (checkAll s args d .answer) ≡ firstFailed (limits args cs)
+  first-limits : (args : List Argument) (d : Decision) (cs : List Check) → number (d .answer) ≡ firstFailed cs → number (checkAll args d .answer) ≡ firstFailed (limits args cs)
   unfolding checkAll number
   first-limits [] d cs e = e
   first-limits (a ∷ more) d cs e = first (a .fits) _ _ (limits more cs) (first-limits more d cs e)

@@ -16,15 +16,18 @@ use Rattle.model.specs.declared.Cpu.{Cpu}
 use Rattle.model.specs.declared.Guest.{Guest}
 use Rattle.model.specs.declared.Space.{Space}
 use Rattle.model.specs.declared.State.{State}
-use Rattle.model.specs.Calls.{made, withEnrolled}
-use Rattle.model.specs.Decision.{Decision}
+use Rattle.model.specs.declared.Change.{Change}
+use Rattle.model.specs.declared.Change.the-variants.{AddSpace, AddGuest}
+use Rattle.model.specs.Applied.{applied}
+use Rattle.model.specs.Calls.{newSpace, newGuest}
+use Rattle.model.specs.Decision.{Decision, after}
 use Rattle.model.specs.Granted.{Made, Created}
 use Rattle.model.specs.Names.{blanks, nameRest, nameForm, nameBytes, goodName, baseName}
 use Rattle.model.specs.Runs.{IsRun}
 use Rattle.model.specs.Searches.{enrolled, slotNamed, primarySlot, primaries, dataSpaces, freeSlot, freeRun}
 use Rattle.model.specs.Sizes.{maxAllowance, maxList}
 use Rattle.model.specs.Sound.{Live, IsGuest, GuestsOk, PermitsOk, EntriesOk, Sound}
-use Rattle.model.specs.Tables.{noGuest, spaceAt, guestAt, guestPlace, cpuAt, withGuests}
+use Rattle.model.specs.Tables.{noGuest, spaceAt, guestAt, guestPlace, cpuAt, withNext, withSpaces, withGuests}
 use Rattle.model.proofs.NewSpace.{Fits, stands, spaces-made, primary-made, data-made, others-made, no-primaries, no-data}
 use Rattle.model.proofs.Runs.{lowest-run, lowest-slot}
 use Rattle.model.proofs.Searches.{live-slot, enrolled-guest, enrolled-is, enrolled-of, named-none, primary-lt}
@@ -138,19 +141,17 @@ module _ (s : State) (ok : Sound s) (hs : List Guest) (x : Space) (k : Keeps (s 
   }
 
 -- the space that both calls make, and the spaces after them
-abbrev newSpace : State → (guest name pages : ℕ) → Space
-newSpace s g name pages = record { id = s .next; owner = g; name = name; first = freeRun s pages; pages = pages }
-
 abbrev spacesAfter : State → (guest name pages : ℕ) → List Space
 spacesAfter s g name pages = set (s .spaces) (freeSlot (s .spaces)) (newSpace s g name pages)
 
 -- the law of both calls: hs are the guests after the call
-sound-made : (s : State) (hs : List Guest) (g name pages : ℕ) (d : Decision) → Sound s → Made s (withGuests s hs) g name pages d
+sound-made : (s : State) (hs : List Guest) (g name pages : ℕ) (c : Change) (d : Decision) → Sound s
+    → applied s c ≡ withNext (withSpaces (withGuests s hs) (spacesAfter s g name pages)) (s .next + 1) → Made s pages c d
     → Keeps (s .guests) hs g → Settled (spacesAfter s g name pages) (guestAt hs g) (cpuAt (s .cpus) (guestPlace g)) g
     → 1 ≤ pages → goodName name ≡ true → ((u : ℕ) → Live (s .spaces) u → spaceAt (s .spaces) u .owner ≡ g → spaceAt (s .spaces) u .name ≡ name → ⊥)
-    → Sound (d .after)
-unfolding made
-sound-made s hs g name pages d ok m k caller pos good new = rw (m .is) (record {
+    → Sound (after s d)
+unfolding newSpace
+sound-made s hs g name pages c d ok to m k caller pos good new = rw (m .is, to) (record {
   head = record {
     frames-low = ok .head .frames-low;
     frames-high = ok .head .frames-high;
@@ -193,9 +194,10 @@ unfolding primarySlot
 base-found = primary-lt
 
 -- CREATE: the name is not BASE, since the caller has a space of that name, and there is room for one more data space.
-pub sound-create : (s : State) (g name pages : ℕ) (d : Decision) → Sound s → enrolled (s .guests) g ≡ true → goodName name ≡ true → 1 ≤ pages → Created s g name pages d → Sound (d .after)
+pub sound-create : (s : State) (g name pages : ℕ) (d : Decision) → Sound s → enrolled (s .guests) g ≡ true → goodName name ≡ true → 1 ≤ pages → Created s g name pages d → Sound (after s d)
+unfolding newSpace
 sound-create s g name pages d ok e good pos c =
-    sound-made s (s .guests) g name pages d ok (c .made) keeps caller pos good
+    sound-made s (s .guests) g name pages _ d ok refl (c .made) keeps caller pos good
     (λ u l. named-none (s .spaces) g name u (c .new) (live-slot (s .spaces) u 32 (ok .spaces .len) l) l)
   where
     keeps : Keeps (s .guests) (s .guests) g
@@ -228,10 +230,10 @@ base-good = refl
 
 -- ENROL: the caller owned no space, since owners are enrolled; after the call it owns its primary alone.
 pub sound-enrol : (s : State) (g pages allowance share list asf : ℕ) (d : Decision) → Sound s → IsGuest g → guestAt (s .guests) g .enrolled ≡ false → 1 ≤ pages → allowance ≤ 31 → 1 ≤ list → list ≤ 30
-    → Made s (withEnrolled s g allowance share list asf) g baseName pages d → Sound (d .after)
-unfolding withEnrolled
+    → Made s pages (AddGuest (freeSlot (s .spaces)) (newSpace s g baseName pages) (guestPlace g) (newGuest allowance share list asf)) d → Sound (after s d)
+unfolding newGuest newSpace
 sound-enrol s g pages allowance share list asf d ok i out pos small low high m =
-    sound-made s hs g baseName pages d ok m keeps caller pos base-good (λ u l o _. owns-none u l o)
+    sound-made s hs g baseName pages _ d ok refl m keeps caller pos base-good (λ u l o _. owns-none u l o)
   where
     y : Guest
     y = record { enrolled = true; allowance = allowance; share = eqb share 1; list = list; asf = eqb asf 1 }

@@ -10,6 +10,7 @@ use Rattle.model.specs.declared.Call.{Call}
 use Rattle.model.specs.declared.State.{State}
 use Rattle.model.specs.Answers.{number, value}
 use Rattle.model.specs.Calls.{judge, ready, decide}
+use Rattle.model.specs.Decision.{after}
 use Rattle.model.specs.Leaves.{scratchJudged, bufferJudged}
 use Rattle.model.specs.Promise.{Promise, stepOf}
 use Rattle.model.specs.Step.{step, scratchAfter, bufferAfter}
@@ -27,9 +28,9 @@ module _ (s : State) (k : Call) (m b : List ℕ) where
   -- check 1 passes
   pub passed : ready s (length m) ≡ true → decide s (length m) k (length b) ≡ judge s k (length b)
   unfolding decide
-  passed e = check-yes s Unsound (judge s k (length b)) e
+  passed e = check-yes Unsound (judge s k (length b)) e
 
-  pub promise-ready : (a : Answer) (t : State) (m' b' : List ℕ) → ready s (length m) ≡ true → a ≡ judge s k (length b) .answer → t ≡ judge s k (length b) .after
+  pub promise-ready : (a : Answer) (t : State) (m' b' : List ℕ) → ready s (length m) ≡ true → a ≡ judge s k (length b) .answer → t ≡ after s (judge s k (length b))
       → m' ≡ scratchJudged s k m b → b' ≡ bufferJudged s k m b → Promise (stepOf s m k b) a t m' b'
   unfolding step scratchJudged bufferJudged
   promise-ready a t m' b' e pa pt pm pb =

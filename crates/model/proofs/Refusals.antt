@@ -45,7 +45,7 @@ module _ (s : State) (m : ℕ) (k : Call) (n : ℕ) where
   unfolding row listed either
   answer-listed = go (verdict s m k n)
     where
-      go : Verdict s (row (k .operation)) (Granted s m k n) (decide s m k n) → listed (number (decide s m k n .answer)) (row (k .operation)) ≡ true
+      go : Verdict (row (k .operation)) (Granted s m k n) (decide s m k n) → listed (number (decide s m k n .answer)) (row (k .operation)) ≡ true
       go (refused r) = rw (r .is) (r .listed)
       go (granted g) = rw (performed-number s (k .caller) (k .operation) n (decide s m k n) (g .performed)) refl
 
@@ -53,19 +53,19 @@ module _ (s : State) (m : ℕ) (k : Call) (n : ℕ) where
   pub done-granted : number (decide s m k n .answer) ≡ 0 → Granted s m k n (decide s m k n)
   done-granted e = go (verdict s m k n)
     where
-      go : Verdict s (row (k .operation)) (Granted s m k n) (decide s m k n) → Granted s m k n (decide s m k n)
+      go : Verdict (row (k .operation)) (Granted s m k n) (decide s m k n) → Granted s m k n (decide s m k n)
       go (refused r) = true-false (eq-eqb (number (r .answer)) 0 (ap (λ (d : Decision). number (d .answer)) (sym (r .is)) ∙ e)) (r .not-done)
       go (granted g) = g
 
-  pub refused-decision : number (decide s m k n .answer) ≢ 0 → decide s m k n ≡ refuse s (decide s m k n .answer)
+  pub refused-decision : number (decide s m k n .answer) ≢ 0 → decide s m k n ≡ refuse (decide s m k n .answer)
   refused-decision e = go (verdict s m k n)
     where
-      go : Verdict s (row (k .operation)) (Granted s m k n) (decide s m k n) → decide s m k n ≡ refuse s (decide s m k n .answer)
-      go (refused r) = r .is ∙ ap (λ (d : Decision). refuse s (d .answer)) (sym (r .is))
+      go : Verdict (row (k .operation)) (Granted s m k n) (decide s m k n) → decide s m k n ≡ refuse (decide s m k n .answer)
+      go (refused r) = r .is ∙ ap (λ (d : Decision). refuse (d .answer)) (sym (r .is))
       go (granted g) = absurd (e (performed-number s (k .caller) (k .operation) n (decide s m k n) (g .performed)))
 
   -- "On an unsound state or a wrong scratch length every call answers 1."
-  pub unready : ready s m ≡ false → decide s m k n ≡ refuse s Unsound
+  pub unready : ready s m ≡ false → decide s m k n ≡ refuse Unsound
   unfolding decide check
   unready e = rw e
 

@@ -13,7 +13,7 @@ use Rattle.model.specs.declared.Cpu.{Cpu}
 use Rattle.model.specs.declared.Guest.{Guest}
 use Rattle.model.specs.declared.Space.{Space}
 use Rattle.model.specs.declared.State.{State}
-use Rattle.model.specs.Decision.{Decision}
+use Rattle.model.specs.Decision.{Decision, after}
 use Rattle.model.specs.Granted.{Loaded, ModeSet}
 use Rattle.model.specs.Searches.{enrolled}
 use Rattle.model.specs.Sound.{IsGuest, GuestsOk, Sound}
@@ -65,7 +65,7 @@ sixteen-registers : (s : State) (g : ℕ) → Sound s → enrolled (s .guests) g
 sixteen-registers s g ok on = let i = enrolled-guest (s .guests) g on in ok .guests .registers (guestPlace g) (omega arith)
 
 -- LOAD keeps the mode, so whatever is loaded the block stays good
-pub sound-load : (s : State) (c : Caller) (r v : ℕ) (d : Decision) → Sound s → enrolled (s .guests) (c .guest) ≡ true → r ≤ 15 → Loaded s c r v d → Sound (d .after)
+pub sound-load : (s : State) (c : Caller) (r v : ℕ) (d : Decision) → Sound s → enrolled (s .guests) (c .guest) ≡ true → r ≤ 15 → Loaded s c r v d → Sound (after s d)
 sound-load s c r v d ok on b done =
     rw (done .is)
     (sound-cpu s (c .guest) _ ok on
@@ -73,7 +73,7 @@ sound-load s c r v d ok on b done =
     (ok .guests .mode (c .guest) on))
 
 -- MODE keeps the registers, and has checked ASF
-pub sound-mode : (s : State) (c : Caller) (m : ℕ) (d : Decision) → Sound s → enrolled (s .guests) (c .guest) ≡ true → ModeSet s c m d → Sound (d .after)
+pub sound-mode : (s : State) (c : Caller) (m : ℕ) (d : Decision) → Sound s → enrolled (s .guests) (c .guest) ≡ true → ModeSet s c m d → Sound (after s d)
 sound-mode s c m d ok on done =
     rw (done .is)
     (sound-cpu s (c .guest) _ ok on (sixteen-registers s (c .guest) ok on) (λ e. done .asf (eqb-true m 1 e)))

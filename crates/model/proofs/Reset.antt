@@ -20,9 +20,9 @@ use Rattle.model.specs.declared.Right.the-variants.{Read}
 use Rattle.model.specs.declared.Standing.{Standing}
 use Rattle.model.specs.declared.Standing.the-variants.{Unused, Valid, Revoked}
 use Rattle.model.specs.declared.State.{State}
-use Rattle.model.specs.Calls.{resetTables}
+use Rattle.model.specs.Applied.{resetTables}
 use Rattle.model.specs.Changes.{allows, releasedFrom, released, revokedFrom, revoked, listOwner, permitSlot, releasedAll, vacated, unpermitted, loses, revokedAll, withdrawn}
-use Rattle.model.specs.Decision.{Decision}
+use Rattle.model.specs.Decision.{Decision, after}
 use Rattle.model.specs.Granted.{Destroyed, Isolated, ResetDone}
 use Rattle.model.specs.Names.{baseName}
 use Rattle.model.specs.Searches.{isOwned, isData, slotOf}
@@ -75,16 +75,16 @@ sound-released s g ok = record {
 }
 
 -- The three calls.
-pub sound-destroy : (s : State) (g i : ℕ) (d : Decision) → Sound s → Destroyed s g i d → Sound (d .after)
+pub sound-destroy : (s : State) (g i : ℕ) (d : Decision) → Sound s → Destroyed s g i d → Sound (after s d)
 sound-destroy s g i d ok c =
     let u = slotOf (s .spaces) i in
     rw (c .is) (sound-withdrawn s (eqb u) (eqb u) ok (λ v e. e) (λ v e l. rw (← eqb-true u v e) (c .not-primary)))
 
-pub sound-isolate : (s : State) (g i : ℕ) (d : Decision) → Sound s → Isolated s g i d → Sound (d .after)
+pub sound-isolate : (s : State) (g i : ℕ) (d : Decision) → Sound s → Isolated s g i d → Sound (after s d)
 sound-isolate s g i d ok c =
     rw (c .is) (sound-withdrawn s (λ v. false) (eqb (slotOf (s .spaces) i)) ok (λ v e. true-false e refl) (λ v e l. true-false e refl))
 
-pub sound-reset : (s : State) (g : ℕ) (d : Decision) → Sound s → ResetDone s g d → Sound (d .after)
+pub sound-reset : (s : State) (g : ℕ) (d : Decision) → Sound s → ResetDone s g d → Sound (after s d)
 unfolding resetTables
 sound-reset s g d ok c =
     let gone : ℕ → Bool = λ u. isData g (spaceAt (s .spaces) u) in

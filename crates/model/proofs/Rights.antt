@@ -21,7 +21,7 @@ use Rattle.model.specs.declared.Standing.the-variants.{Valid}
 use Rattle.model.specs.declared.State.{State}
 use Rattle.model.specs.Calls.{entitled}
 use Rattle.model.specs.Changes.{allows, raised}
-use Rattle.model.specs.Decision.{Decision}
+use Rattle.model.specs.Decision.{Decision, after}
 use Rattle.model.specs.Granted.{Permitted, Added, Removed, addedEntry}
 use Rattle.model.specs.Searches.{enrolled, slotOf}
 use Rattle.model.specs.Sound.{IsGuest, IsEntry, PermitGround, PermitsOk, EntryGround, EntriesOk, Sound}
@@ -104,7 +104,7 @@ raise-keeps ps u h r len b i v k x e =
     (λ q. raised-allows (grantAt ps u h) r x (ap (λ n. allows (getD ps n noPermit .grant) x) (sym q) ∙ e))
     (λ _. e)
 
-pub sound-permit : (s : State) (g i h : ℕ) (r : Right) (d : Decision) → Sound s → enrolled (s .guests) h ≡ true → h ≢ g → Permitted s g i h r d → Sound (d .after)
+pub sound-permit : (s : State) (g i h : ℕ) (r : Right) (d : Decision) → Sound s → enrolled (s .guests) h ≡ true → h ≢ g → Permitted s g i h r d → Sound (after s d)
 sound-permit s g i h r d ok on other done =
     let u = slotOf (s .spaces) i in
     let b = done .owning .slot in
@@ -132,7 +132,7 @@ entitled-ground s g i r b e = record {
   right = ⊎-elim (λ o. inl (eqb-true _ g o)) (λ a. inr a) (either-to _ _ e);
 }
 
-pub sound-add : (s : State) (g i : ℕ) (r : Right) (d : Decision) → Sound s → enrolled (s .guests) g ≡ true → Added s g i r d → Sound (d .after)
+pub sound-add : (s : State) (g i : ℕ) (r : Right) (d : Decision) → Sound s → enrolled (s .guests) g ≡ true → Added s g i r d → Sound (after s d)
 sound-add s g i r d ok on done =
     let guest = enrolled-guest (s .guests) g on in
     let entry = added-entry s g i r d ok on done in
@@ -144,7 +144,7 @@ sound-add s g i r d ok on done =
     rw (← a, ← b) (entitled-ground s g i r (done .slot) (done .right))))
 
 -- REMOVE
-pub sound-remove : (s : State) (g t : ℕ) (d : Decision) → Sound s → IsGuest g → Removed s g t d → Sound (d .after)
+pub sound-remove : (s : State) (g t : ℕ) (d : Decision) → Sound s → IsGuest g → Removed s g t d → Sound (after s d)
 sound-remove s g t d ok guest done =
     let entry = formed t (done .not-zero) (done .formed) .entry in
     let x = entryAt (s .entries) g (entryNumber t) in

@@ -16,20 +16,20 @@ use Rattle.model.specs.declared.State.{State}
 use Rattle.model.specs.Decision.{Decision, refuse, accept, check}
 use Rattle.model.specs.Replies.{reply, replied}
 
-pub check-yes : (s : State) {b : Bool} (a : Answer) (d : Decision) → b ≡ true → check s b a d ≡ d
+pub check-yes : {b : Bool} (a : Answer) (d : Decision) → b ≡ true → check b a d ≡ d
 unfolding check
-check-yes s a d e = rw e
+check-yes a d e = rw e
 
-pub check-no : (s : State) {b : Bool} (a : Answer) (d : Decision) → b ≡ false → check s b a d ≡ refuse s a
+pub check-no : {b : Bool} (a : Answer) (d : Decision) → b ≡ false → check b a d ≡ refuse a
 unfolding check
-check-no s a d e = rw e
+check-no a d e = rw e
 
-pub go-on : (x : Reply) (s : State) (b : Bool) (a : Answer) (d : Decision) → b ≡ true → x ≡ replied d → x ≡ replied (check s b a d)
-go-on x s b a d e p = p ∙ ap replied (sym (check-yes s a d e))
+pub go-on : (x : Reply) (s : State) (b : Bool) (a : Answer) (d : Decision) → b ≡ true → x ≡ replied s d → x ≡ replied s (check b a d)
+go-on x s b a d e p = p ∙ ap (replied s) (sym (check-yes a d e))
 
-pub refuse-at : (s : State) (b : Bool) (a : Answer) (d : Decision) → b ≡ false → reply a s ≡ replied (check s b a d)
+pub refuse-at : (s : State) (b : Bool) (a : Answer) (d : Decision) → b ≡ false → reply a s ≡ replied s (check b a d)
 unfolding replied
-refuse-at s b a d e = ap replied (sym (check-no s a d e))
+refuse-at s b a d e = ap (replied s) (sym (check-no a d e))
 
 pub ruleset checks = (go-on, refuse-at)
 

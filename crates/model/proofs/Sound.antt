@@ -16,7 +16,7 @@ use Rattle.model.specs.declared.Operation.the-variants.{Enrol, Create, D
 use Rattle.model.specs.declared.State.{State}
 use Rattle.model.specs.Arguments.{arguments}
 use Rattle.model.specs.Calls.{enrols, mayEnrol, goodCaller, ready, decide}
-use Rattle.model.specs.Decision.{Decision, Effect, none, clear, fetch, store}
+use Rattle.model.specs.Decision.{Decision, after, Effect, none, clear, fetch, store}
 use Rattle.model.specs.Frames.{layout, placeOf}
 use Rattle.model.specs.Granted.{Performed, AllFit, Granted}
 use Rattle.model.specs.Searches.{enrolled}
@@ -43,7 +43,7 @@ may-enrol s g e =
     (record { low = leb-true 1 g (both-left (leb 1 g) (leb g 8) r); high = leb-true g 8 (both-right (leb 1 g) (leb g 8) r) }, not-to _ (both-right (both (leb 1 g) (leb g 8)) _ e))
 
 -- a done call, by what its checks 2 and 3 and its own have established
-performed-sound : (s : State) (c : Caller) (k : Operation) (n : ℕ) (d : Decision) → Sound s → goodCaller s c k ≡ true → AllFit (arguments (s .guests) c k n) → Performed s c k n d → Sound (d .after)
+performed-sound : (s : State) (c : Caller) (k : Operation) (n : ℕ) (d : Decision) → Sound s → goodCaller s c k ≡ true → AllFit (arguments (s .guests) c k n) → Performed s c k n d → Sound (after s d)
 unfolding goodCaller enrols choose arguments AllFit Performed
 performed-sound s c (Enrol pages allowance share list asf) n d ok e fit p =
     let m = may-enrol s (c .guest) e in
@@ -63,10 +63,10 @@ performed-sound s c (Fetch register address) n d ok e fit p = rw (p .is) ok
 performed-sound s c (Store register address) n d ok e fit p = rw (p .is) ok
 performed-sound s c Reset n d ok e fit p = sound-reset s (c .guest) d ok p
 
-pub sound-kept : (s : State) (m : ℕ) (k : Call) (n : ℕ) → Sound s → Sound (decide s m k n .after)
+pub sound-kept : (s : State) (m : ℕ) (k : Call) (n : ℕ) → Sound s → Sound (after s (decide s m k n))
 sound-kept s m k n ok = go (verdict s m k n)
   where
-    go : Verdict s (row (k .operation)) (Granted s m k n) (decide s m k n) → Sound (decide s m k n .after)
+    go : Verdict (row (k .operation)) (Granted s m k n) (decide s m k n) → Sound (after s (decide s m k n))
     go (refused r) = rw (r .is) ok
     go (granted g) = performed-sound s (k .caller) (k .operation) n (decide s m k n) ok (g .caller) (g .arguments) (g .performed)
 

@@ -27,9 +27,11 @@ use Rattle.model.specs.declared.Standing.{Standing}
 use Rattle.model.specs.declared.Standing.the-variants.{Unused, Valid, Revoked}
 use Rattle.model.specs.declared.State.{State}
 use Rattle.model.specs.Answers.{value}
-use Rattle.model.specs.Calls.{made, withEnrolled, resetTables, enrols, goodCaller}
+use Rattle.model.specs.declared.Change.{Change}
+use Rattle.model.specs.Applied.{applied, resetTables}
+use Rattle.model.specs.Calls.{newSpace, newGuest, enrols, goodCaller}
 use Rattle.model.specs.Changes.{released, releasedFrom, revokedFrom, revoked, loses, withdrawn}
-use Rattle.model.specs.Decision.{Decision, none, accept}
+use Rattle.model.specs.Decision.{Decision, after, none, accept}
 use Rattle.model.specs.Frames.{layout, frameOf, bytesOf}
 use Rattle.model.specs.Granted.{Made, Performed}
 use Rattle.model.specs.Names.{baseName}
@@ -56,23 +58,23 @@ pub record MakeEffect (s : State) (g k n : ℕ) (d : Decision) : Type 0 where
   pub start : ℕ
   pub start-below : start < s .frames
   pub run-lowest : Lowest (IsRun s n) (s .frames) start
-  pub space : spaceAt (d .after .spaces) slot ≡ record { id = s .next; owner = g; name = k; first = start; pages = n }
-  pub others : (u : ℕ) → u ≢ slot → spaceAt (d .after .spaces) u ≡ spaceAt (s .spaces) u
-  pub next : d .after .next ≡ s .next + 1
+  pub space : spaceAt (after s d .spaces) slot ≡ record { id = s .next; owner = g; name = k; first = start; pages = n }
+  pub others : (u : ℕ) → u ≢ slot → spaceAt (after s d .spaces) u ≡ spaceAt (s .spaces) u
+  pub next : after s d .next ≡ s .next + 1
   pub value : value (d .answer) ≡ s .next
-  pub zeros : (m b : List ℕ) → bytesOf (d .after) slot (scratchAfter (d .after) (d .effect) m b) ≡ replicate (n * 4096) 0
+  pub zeros : (m b : List ℕ) → bytesOf (after s d) slot (scratchAfter (after s d) (d .effect) m b) ≡ replicate (n * 4096) 0
 
 pub record EnrolEffect (s : State) (g pages allowance share list asf : ℕ) (d : Decision) : Type 0 where
   pub made : MakeEffect s g baseName pages d
-  pub guest : guestAt (d .after .guests) g ≡ record { enrolled = true; allowance = allowance; share = eqb share 1; list = list; asf = eqb asf 1 }
-  pub others : (h : ℕ) → IsGuest h → h ≢ g → guestAt (d .after .guests) h ≡ guestAt (s .guests) h
-  pub rest : d .after ≡ withNext (withSpaces (withGuests s (d .after .guests)) (d .after .spaces)) (d .after .next)
+  pub guest : guestAt (after s d .guests) g ≡ record { enrolled = true; allowance = allowance; share = eqb share 1; list = list; asf = eqb asf 1 }
+  pub others : (h : ℕ) → IsGuest h → h ≢ g → guestAt (after s d .guests) h ≡ guestAt (s .guests) h
+  pub rest : after s d ≡ withNext (withSpaces (withGuests s (after s d .guests)) (after s d .spaces)) (after s d .next)
 
 pub record CreateEffect (s : State) (g name pages : ℕ) (d : Decision) : Type 0 where
   pub made : MakeEffect s g name pages d
   pub new : (u : ℕ) → u < 32 → Live (s .spaces) u → spaceAt (s .spaces) u .owner ≡ g → spaceAt (s .spaces) u .name ≢ name
   pub room : dataSpaces (s .spaces) g < guestAt (s .guests) g .allowance
-  pub rest : d .after ≡ withNext (withSpaces s (d .after .spaces)) (d .after .next)
+  pub rest : after s d ≡ withNext (withSpaces s (after s d .spaces)) (after s d .next)
 
 -- the slots of which G holds are empty, and every other stands as it stood
 pub record SpacesGo (before after : List Space) (G : ℕ → Type 0) : Type 0 where
@@ -91,7 +93,7 @@ pub record Withdrawn (L : ℕ → Type 0) (x y : Entry) : Type 0 where
 
 -- guests, registers, modes, the next identification and all bytes stay
 pub record RestStays (s : State) (d : Decision) : Type 0 where
-  pub tables : d .after ≡ withEntries (withPermits (withSpaces s (d .after .spaces)) (d .after .permits)) (d .after .entries)
+  pub tables : after s d ≡ withEntries (withPermits (withSpaces s (after s d .spaces)) (after s d .permits)) (after s d .entries)
   pub bytes : d .effect ≡ none
 
 -- DESTROY: "Every valid entry for it, in every list, becomes revoked. Permits vanish; frames are free for use again."
@@ -100,10 +102,10 @@ pub record DestroyEffect (s : State) (g i : ℕ) (d : Decision) : Type 0 where
   pub space : IsSpace s i slot
   pub owner : spaceAt (s .spaces) slot .owner ≡ g
   pub not-primary : spaceAt (s .spaces) slot .name ≢ baseName
-  pub spaces : SpacesGo (s .spaces) (d .after .spaces) (λ u. u ≡ slot)
-  pub frames : (u p q : ℕ) → Live (d .after .spaces) u → p < spaceAt (d .after .spaces) u .pages → q < spaceAt (s .spaces) slot .pages → frameOf (layout (d .after)) u p ≢ frameOf (layout s) slot q
-  pub permits : PermitsGo (s .permits) (d .after .permits) (λ u. u ≡ slot)
-  pub entries : (h n : ℕ) → IsGuest h → IsEntry n → Withdrawn (λ u. u ≡ slot) (entryAt (s .entries) h n) (entryAt (d .after .entries) h n)
+  pub spaces : SpacesGo (s .spaces) (after s d .spaces) (λ u. u ≡ slot)
+  pub frames : (u p q : ℕ) → Live (after s d .spaces) u → p < spaceAt (after s d .spaces) u .pages → q < spaceAt (s .spaces) slot .pages → frameOf (layout (after s d)) u p ≢ frameOf (layout s) slot q
+  pub permits : PermitsGo (s .permits) (after s d .permits) (λ u. u ≡ slot)
+  pub entries : (h n : ℕ) → IsGuest h → IsEntry n → Withdrawn (λ u. u ≡ slot) (entryAt (s .entries) h n) (entryAt (after s d .entries) h n)
   pub rest : RestStays s d
 
 -- ISOLATE: "All permits for it go; other guests' valid entries for it become revoked, the owner's stay."
@@ -111,9 +113,9 @@ pub record IsolateEffect (s : State) (g i : ℕ) (d : Decision) : Type 0 where
   pub slot : ℕ
   pub space : IsSpace s i slot
   pub owner : spaceAt (s .spaces) slot .owner ≡ g
-  pub spaces : SpacesGo (s .spaces) (d .after .spaces) (λ u. ⊥)
-  pub permits : PermitsGo (s .permits) (d .after .permits) (λ u. u ≡ slot)
-  pub entries : (h n : ℕ) → IsGuest h → IsEntry n → Withdrawn (λ u. (u ≡ slot) × (h ≢ g)) (entryAt (s .entries) h n) (entryAt (d .after .entries) h n)
+  pub spaces : SpacesGo (s .spaces) (after s d .spaces) (λ u. ⊥)
+  pub permits : PermitsGo (s .permits) (after s d .permits) (λ u. u ≡ slot)
+  pub entries : (h n : ℕ) → IsGuest h → IsEntry n → Withdrawn (λ u. (u ≡ slot) × (h ≢ g)) (entryAt (s .entries) h n) (entryAt (after s d .entries) h n)
   pub rest : RestStays s d
 
 -- RESET: "all the caller's entries become unused, its data spaces are destroyed, its primary is isolated. Primary bytes,
@@ -123,20 +125,22 @@ pub record Owned (s : State) (g u : ℕ) : Type 0 where
   pub owner : spaceAt (s .spaces) u .owner ≡ g
 
 pub record ResetEffect (s : State) (g : ℕ) (d : Decision) : Type 0 where
-  pub unused : (n : ℕ) → IsEntry n → entryAt (d .after .entries) g n .standing ≡ Unused
-  pub released : (n : ℕ) → IsEntry n → entryAt (d .after .entries) g n ≡ released (entryAt (s .entries) g n)
-  pub spaces : SpacesGo (s .spaces) (d .after .spaces) (λ u. Owned s g u × (spaceAt (s .spaces) u .name ≢ baseName))
-  pub permits : PermitsGo (s .permits) (d .after .permits) (Owned s g)
-  pub entries : (h n : ℕ) → h ≢ g → IsGuest h → IsEntry n → Withdrawn (Owned s g) (entryAt (s .entries) h n) (entryAt (d .after .entries) h n)
+  pub unused : (n : ℕ) → IsEntry n → entryAt (after s d .entries) g n .standing ≡ Unused
+  pub released : (n : ℕ) → IsEntry n → entryAt (after s d .entries) g n ≡ released (entryAt (s .entries) g n)
+  pub spaces : SpacesGo (s .spaces) (after s d .spaces) (λ u. Owned s g u × (spaceAt (s .spaces) u .name ≢ baseName))
+  pub permits : PermitsGo (s .permits) (after s d .permits) (Owned s g)
+  pub entries : (h n : ℕ) → h ≢ g → IsGuest h → IsEntry n → Withdrawn (Owned s g) (entryAt (s .entries) h n) (entryAt (after s d .entries) h n)
   pub rest : RestStays s d
 
 -- One law of making serves both.
-make-does : (s : State) (hs : List Guest) (g name pages : ℕ) (d : Decision) → Sound s → Sound (d .after) → Made s (withGuests s hs) g name pages d → MakeEffect s g name pages d
-unfolding made value scratchAfter
-make-does s hs g name pages d ok after m =
+make-does : (s : State) (hs : List Guest) (g name pages : ℕ) (c : Change) (d : Decision) → Sound s → Sound (after s d)
+    → applied s c ≡ withNext (withSpaces (withGuests s hs) (set (s .spaces) (freeSlot (s .spaces)) (newSpace s g name pages))) (s .next + 1) → Made s pages c d → MakeEffect s g name pages d
+unfolding newSpace value scratchAfter
+make-does s hs g name pages c d ok fine to m =
     let u = freeSlot (s .spaces) in
     let x : Space = record { id = s .next; owner = g; name = name; first = freeRun s pages; pages = pages } in
     let is : spaceAt (set (s .spaces) u x) u ≡ x = getD-set-same (s .spaces) u x noSpace (omega (arith, ok .spaces .len, m .slot)) in
+    let there : spaceAt (applied s c .spaces) u ≡ x = ap (λ (y : State). spaceAt (y .spaces) u) to ∙ is in
     rw (m .is) (record {
       slot = u;
       slot-below = m .slot;
@@ -144,11 +148,11 @@ make-does s hs g name pages d ok after m =
       start = freeRun s pages;
       start-below = m .run;
       run-lowest = lowest-run s pages;
-      space = is;
-      others = λ v ne. getD-set-other (s .spaces) u v x noSpace ne;
-      next = refl;
+      space = there;
+      others = λ v ne. ap (λ (y : State). spaceAt (y .spaces) v) to ∙ getD-set-other (s .spaces) u v x noSpace ne;
+      next = ap (λ (y : State). y .next) to;
       value = refl;
-      zeros = λ c b. clear-own _ (rw (m .is) at after) u c (rw is (ok .head .next-low)) ∙ ap (λ (y : Space). replicate (y .pages * 4096) 0) is;
+      zeros = λ k b. clear-own (applied s c) (rw (m .is) at fine) u k (rw there (ok .head .next-low)) ∙ ap (λ (y : Space). replicate (y .pages * 4096) 0) there;
     })
 
 -- One law of withdrawing serves all three.
@@ -184,9 +188,9 @@ module _ (s : State) (gone closed : ℕ → Bool) where
       let same = ok .spaces .apart u v p q (w .1) l (rw (w .2) at a) b (sym (withdrawn-frame s gone closed u p (w .0)) ∙ e) .0 in
       true-false y (ap gone (sym same) ∙ w .0)
 
-  rest-stays : RestStays s (accept (withdrawn gone closed s) 0 none)
+  rest-stays : (c : Change) → applied s c ≡ withdrawn gone closed s → RestStays s (accept 0 c none)
   unfolding withdrawn
-  rest-stays = record { tables = refl; bytes = refl }
+  rest-stays c e = record { tables = rw e refl; bytes = refl }
 
 -- an entry that was revoked is released like one that was valid
 released-revoked : (t : ℕ → Bool) (e : Entry) → released (revoked t e) ≡ released e
@@ -217,29 +221,29 @@ module _ (s : State) (m : ℕ) (c : Caller) (n : ℕ) where
   enrolling pages allowance share list asf done = may-enrol s g (all s m c n (Enrol pages allowance share list asf) done .caller) .0
 
   pub enrol-does : (pages allowance share list asf : ℕ) → Done s m c n (Enrol pages allowance share list asf) → EnrolEffect s g pages allowance share list asf (by s m c n (Enrol pages allowance share list asf))
-  unfolding Performed withEnrolled made
+  unfolding Performed newGuest newSpace
   enrol-does pages allowance share list asf done =
       let k = Enrol pages allowance share list asf in
       let p = all s m c n k done .performed in
       let fine = ok s m c n k done in
       let i = enrolling pages allowance share list asf done in
       let y : Guest = record { enrolled = true; allowance = allowance; share = eqb share 1; list = list; asf = eqb asf 1 } in
-      let is : by s m c n k .after .guests ≡ set (s .guests) (guestPlace g) y = ap (λ (d : Decision). d .after .guests) (p .is) in
+      let is : after s (by s m c n k) .guests ≡ set (s .guests) (guestPlace g) y = ap (λ (d : Decision). after s d .guests) (p .is) in
       record {
-        made = make-does s _ g baseName pages (by s m c n k) fine (sound-kept s m _ n fine) p;
+        made = make-does s _ g baseName pages _ (by s m c n k) fine (sound-kept s m _ n fine) refl p;
         guest = ap (λ gs. guestAt gs g) is ∙ getD-set-same (s .guests) (guestPlace g) y noGuest (omega (arith, fine .guests .len));
         others = λ h j ne. ap (λ gs. guestAt gs h) is ∙ getD-set-other (s .guests) (guestPlace g) (guestPlace h) y noGuest (λ e. ne (same-guest g h i j e));
         rest = rw (p .is) refl;
       }
 
   pub create-does : (name pages : ℕ) → Done s m c n (Create name pages) → CreateEffect s g name pages (by s m c n (Create name pages))
-  unfolding Performed goodCaller enrols choose made
+  unfolding Performed goodCaller enrols choose newSpace
   create-does name pages done =
       let k = Create name pages in
       let p = all s m c n k done .performed in
       let fine = ok s m c n k done in
       record {
-        made = make-does s (s .guests) g name pages (by s m c n k) fine (sound-kept s m _ n fine) (p .made);
+        made = make-does s (s .guests) g name pages _ (by s m c n k) fine (sound-kept s m _ n fine) refl (p .made);
         new = λ u b l o e. named-none (s .spaces) g name u (p .new) b l o e;
         room = omega (arith, p .room, fine .guests .allowed g (all s m c n k done .caller));
         rest = rw (p .made .is) refl;
@@ -261,7 +265,7 @@ module _ (s : State) (m : ℕ) (c : Caller) (n : ℕ) where
         permits = permits-go s (eqb u) (eqb u) (λ v. v ≡ u) (d-same u);
         entries = λ h k. entry-withdrawn s (eqb u) (eqb u) (λ v. v ≡ u) h k (λ v.
             d-map (⊎-elim (λ e. e) (λ e. e .0)) (λ e. inl e) (d-either (d-same u v) (d-both (d-same u v) (d-not (d-eq (spaceAt (s .spaces) v .owner) h)))));
-        rest = rest-stays s (eqb u) (eqb u);
+        rest = rest-stays s (eqb u) (eqb u) _ refl;
       })
 
   pub isolate-does : (i : ℕ) → Done s m c n (Isolate i) → IsolateEffect s g i (by s m c n (Isolate i))
@@ -280,7 +284,7 @@ module _ (s : State) (m : ℕ) (c : Caller) (n : ℕ) where
         entries = λ h k. entry-withdrawn s keep (eqb u) (λ v. (v ≡ u) × (h ≢ g)) h k (λ v.
             d-map (⊎-elim (λ z. absurd z) (λ e. (e .0, λ q. e .1 (owner v (e .0) ∙ sym q)))) (λ e. inr (e .0, λ q. e .1 (sym q ∙ owner v (e .0))))
             (d-either d-never (d-both (d-same u v) (d-not (d-eq (spaceAt (s .spaces) v .owner) h)))));
-        rest = rest-stays s keep (eqb u);
+        rest = rest-stays s keep (eqb u) _ refl;
       })
 
   pub reset-does : Done s m c n Reset → ResetEffect s g (by s m c n Reset)

@@ -10,7 +10,7 @@ use Rattle.model.specs.declared.Operation.{Operation}
 use Rattle.model.specs.declared.Operation.the-variants.{Enrol, Create, Destroy, Permit, Isolate, Query, Add, Remove, Load, Mode, Fetch, Store, Reset}
 use Rattle.model.specs.Answers.{number}
 use Rattle.model.specs.Calls.{ready}
-use Rattle.model.specs.Decision.{Decision}
+use Rattle.model.specs.Decision.{Decision, after}
 use Rattle.model.specs.Step.{Machine, Issue, decision, step}
 use Rattle.model.specs.Verdict.{row, ownRow, listed}
 use Rattle.model.proofs.Lawful.{lawful}
@@ -45,9 +45,9 @@ pub frames-kept : (m : Machine) (i : Issue) → step m i .machine .tables .frame
 unfolding step
 frames-kept m i = go (ready (m .tables) (length (m .scratch))) refl
   where
-    go : (b : Bool) → ready (m .tables) (length (m .scratch)) ≡ b → decision m i .after .frames ≡ m .tables .frames
+    go : (b : Bool) → ready (m .tables) (length (m .scratch)) ≡ b → after (m .tables) (decision m i) .frames ≡ m .tables .frames
     go true e = lawful (m .tables) (length (m .scratch)) (i .call) (length (i .buffer)) (ready-to m e .sound) .frames
-    go false e = ap (λ (d : Decision). d .after .frames) (unready (m .tables) (length (m .scratch)) (i .call) (length (i .buffer)) e)
+    go false e = ap (λ (d : Decision). after (m .tables) d .frames) (unready (m .tables) (length (m .scratch)) (i .call) (length (i .buffer)) e)
 
 pub room-kept : (m : Machine) (i : Issue) → length (step m i .machine .scratch) ≡ length (m .scratch)
 unfolding step

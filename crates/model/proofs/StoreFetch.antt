@@ -10,6 +10,7 @@ use Rattle.lists.specs.Bytes.{over}
 use Rattle.lists.specs.Choice.{choose, implies}
 use Rattle.model.specs.declared.Caller.{Caller}
 use Rattle.model.specs.declared.Operation.the-variants.{Fetch, Store}
+use Rattle.model.specs.declared.Change.the-variants.{Keep}
 use Rattle.model.specs.declared.State.{State}
 use Rattle.model.specs.Answers.{number}
 use Rattle.model.specs.Arguments.{arguments, checkAll}
@@ -66,7 +67,7 @@ module _ (m : Machine) (c : Caller) (r a : ℕ) (b : List ℕ) (done : number (s
   store-spares v l ne = rw store-machine (store-other s (fine .sound) (found .slot) a b (m .scratch) within v l ne)
 
   -- a fetch through the same register is then answered 0
-  fetch-decision : (n : ℕ) → ready s n ≡ true → decide s n (fetchOf c r a b .call) (length b) ≡ accept s 0 (fetch (found .slot) a)
+  fetch-decision : (n : ℕ) → ready s n ≡ true → decide s n (fetchOf c r a b .call) (length b) ≡ accept 0 Keep (fetch (found .slot) a)
   unfolding decide judge check checkAll arguments AllFit goodCaller enrols choose perform fetching access accessAt implies
   fetch-decision n e =
       rw (e, all .caller, all .arguments .0, all .arguments .1 .0, found .reached, le-leb (a + length b) (sizeOf (s .spaces) (found .slot)) (found .inside))
@@ -77,11 +78,12 @@ module _ (m : Machine) (c : Caller) (r a : ℕ) (b : List ℕ) (done : number (s
   abbrev left : Machine
   left = record { tables = s; scratch = scratchAfter s (store (found .slot) a) (m .scratch) b }
 
-  then-is : (e : List ℕ) → length e ≡ length b → then e ≡ outcome left (fetchOf c r a e) (accept s 0 (fetch (found .slot) a))
+  then-is : (e : List ℕ) → length e ≡ length b → then e ≡ outcome left (fetchOf c r a e) (accept 0 Keep (fetch (found .slot) a))
   unfolding step
   then-is e same =
+      let q : decision left (fetchOf c r a e) ≡ accept 0 Keep (fetch (found .slot) a) = rw same (fetch-decision (length (left .scratch)) (ready-of left (rw store-machine at (ready-kept m (storeOf c r a b) fine)))) in
       ap (λ (x : Machine). outcome x (fetchOf c r a e) (decision x (fetchOf c r a e))) store-machine
-      ∙ ap (outcome left (fetchOf c r a e)) (rw same (fetch-decision (length (left .scratch)) (ready-of left (rw store-machine at (ready-kept m (storeOf c r a b) fine)))))
+      ∙ ap (λ (d : Decision). outcome left (fetchOf c r a e) d) q
 
   -- and gives back what was stored
   pub stored-back : (e : List ℕ) → length e ≡ length b → (number (then e .answer) ≡ 0) × (then e .buffer ≡ b)

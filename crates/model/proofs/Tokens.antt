@@ -15,7 +15,7 @@ use Rattle.model.specs.declared.Standing.the-variants.{Valid}
 use Rattle.model.specs.declared.State.{State}
 use Rattle.model.specs.Answers.{value}
 use Rattle.model.specs.Changes.{released}
-use Rattle.model.specs.Decision.{Decision}
+use Rattle.model.specs.Decision.{Decision, after}
 use Rattle.model.specs.Granted.{Added, Removed, addedEntry}
 use Rattle.model.specs.Searches.{enrolled, slotOf, isUnused}
 use Rattle.model.specs.Sound.{IsGuest, IsEntry, Sound}
@@ -97,7 +97,7 @@ pub record TokenGiven (s : State) (g : ℕ) (d : Decision) : Type 0 where
   pub not-zero : value (d .answer) ≢ 0
   pub formed : malformed (value (d .answer)) ≡ false
   pub entry : entryNumber (value (d .answer)) ≡ addedEntry s g
-  pub assigned : assigned (d .after .entries) g (guestAt (d .after .guests) g .list) (value (d .answer)) ≡ true
+  pub assigned : assigned (after s d .entries) g (guestAt (after s d .guests) g .list) (value (d .answer)) ≡ true
 
 module _ (s : State) (g i : ℕ) (r : Right) (d : Decision) (ok : Sound s) (on : enrolled (s .guests) g ≡ true) (done : Added s g i r d) where
   pub added-entry : IsEntry (addedEntry s g)
@@ -150,7 +150,7 @@ unfolding reused
 released-reused x used = released-raised x used
 
 -- REMOVE reuses the entry of its token once
-pub removed-reused : (s : State) (g t : ℕ) (d : Decision) → Sound s → IsGuest g → Removed s g t d → entryAt (d .after .entries) g (entryNumber t) .sequence ≡ reused 1 (upperHalf t)
+pub removed-reused : (s : State) (g t : ℕ) (d : Decision) → Sound s → IsGuest g → Removed s g t d → entryAt (after s d .entries) g (entryNumber t) .sequence ≡ reused 1 (upperHalf t)
 removed-reused s g t d ok i done =
     let a = done .assigned in
     let l = guestAt (s .guests) g .list in

@@ -21,7 +21,7 @@ use Rattle.model.specs.declared.Right.the-variants.{Read, Write}
 use Rattle.model.specs.declared.State.{State}
 use Rattle.model.specs.Arguments.{arguments}
 use Rattle.model.specs.Calls.{writes, target, enrols, goodCaller}
-use Rattle.model.specs.Decision.{Decision, Effect, store}
+use Rattle.model.specs.Decision.{Decision, after, Effect, store}
 use Rattle.model.specs.Granted.{Accessed, Performed, AllFit}
 use Rattle.model.specs.Searches.{enrolled, primarySlot}
 use Rattle.model.specs.Frames.{sizeOf, bytesOf}
@@ -94,16 +94,16 @@ pub record FetchEffect (s : State) (c : Caller) (r a n : ℕ) (d : Decision) : T
   pub slot : ℕ
   pub right : Right
   pub reaches : Reaches s c r a n slot right
-  pub buffer : (m b : List ℕ) → length b ≡ n → bufferAfter (d .after) (d .effect) m b ≡ part (bytesOf s slot m) a n
-  pub scratch : (m b : List ℕ) → scratchAfter (d .after) (d .effect) m b ≡ m
-  pub tables : d .after ≡ s
+  pub buffer : (m b : List ℕ) → length b ≡ n → bufferAfter (after s d) (d .effect) m b ≡ part (bytesOf s slot m) a n
+  pub scratch : (m b : List ℕ) → scratchAfter (after s d) (d .effect) m b ≡ m
+  pub tables : after s d ≡ s
 
 -- "a store replaces only the bytes named" (proofs/StoreFetch); "protection: store through a read entry"
 pub record StoreEffect (s : State) (c : Caller) (r a n : ℕ) (d : Decision) : Type 0 where
   pub slot : ℕ
   pub reaches : Reaches s c r a n slot Write
   pub effect : d .effect ≡ store slot a
-  pub tables : d .after ≡ s
+  pub tables : after s d ≡ s
 
 writes-is : (r : Right) → writes r ≡ true → r ≡ Write
 unfolding writes
@@ -111,7 +111,7 @@ writes-is Read e = true-false e refl
 writes-is Write e = refl
 
 module _ (s : State) (m : ℕ) (c : Caller) (n : ℕ) where
-  pub load-does : (r v : ℕ) → Done s m c n (Load r v) → LoadEffect s (by s m c n (Load r v) .after) c r v
+  pub load-does : (r v : ℕ) → Done s m c n (Load r v) → LoadEffect s (after s (by s m c n (Load r v))) c r v
   unfolding Performed enrols arguments AllFit
   load-does r v done =
       let p = all s m c n (Load r v) done .performed in
@@ -128,7 +128,7 @@ module _ (s : State) (m : ℕ) (c : Caller) (n : ℕ) where
         rest = refl;
       })
 
-  pub mode-does : (k : ℕ) → Done s m c n (Mode k) → ModeEffect s (by s m c n (Mode k) .after) c k
+  pub mode-does : (k : ℕ) → Done s m c n (Mode k) → ModeEffect s (after s (by s m c n (Mode k))) c k
   unfolding Performed enrols
   mode-does k done =
       let p = all s m c n (Mode k) done .performed in
@@ -158,7 +158,7 @@ module _ (s : State) (m : ℕ) (c : Caller) (n : ℕ) where
         slot = p .slot;
         reaches = rw (writes-is (p .right) (p .writable refl)) at (reaches r a true _ _ (ok s m c n (Store r a) done) (all s m c n (Store r a) done .caller) p);
         effect = ap (λ (d : Decision). d .effect) (p .is);
-        tables = ap (λ (d : Decision). d .after) (p .is);
+        tables = ap (λ (d : Decision). after s d) (p .is);
       }
 
   pub fetch-does : (r a : ℕ) → Done s m c n (Fetch r a) → FetchEffect s c r a n (by s m c n (Fetch r a))
@@ -171,7 +171,7 @@ module _ (s : State) (m : ℕ) (c : Caller) (n : ℕ) where
         slot = p .slot;
         right = p .right;
         reaches = q;
-        buffer = λ x b len. ap (λ (d : Decision). bufferAfter (d .after) (d .effect) x b) (p .is) ∙ rw len (fetch-bytes s fine (p .slot) a n x (record { live = q .live; fits = q .inside }));
-        scratch = λ x b. ap (λ (d : Decision). scratchAfter (d .after) (d .effect) x b) (p .is);
-        tables = ap (λ (d : Decision). d .after) (p .is);
+        buffer = λ x b len. ap (λ (d : Decision). bufferAfter (after s d) (d .effect) x b) (p .is) ∙ rw len (fetch-bytes s fine (p .slot) a n x (record { live = q .live; fits = q .inside }));
+        scratch = λ x b. ap (λ (d : Decision). scratchAfter (after s d) (d .effect) x b) (p .is);
+        tables = ap (λ (d : Decision). after s d) (p .is);
       }

@@ -12,7 +12,6 @@ use Rattle.model.specs.declared.Kind.{Kind}
 use Rattle.model.specs.declared.Kind.the-variants.{Pages, Allowance, ListSize, Flag, Name, Register, Length, OtherGuest}
 use Rattle.model.specs.declared.Operation.{Operation}
 use Rattle.model.specs.declared.Operation.the-variants.{Enrol, Create, Destroy, Permit, Isolate, Query, Add, Remove, Load, Mode, Fetch, Store, Reset}
-use Rattle.model.specs.declared.State.{State}
 use Rattle.model.specs.Decision.{Decision, check}
 use Rattle.model.specs.Names.{goodName}
 use Rattle.model.specs.Searches.{enrolled}
@@ -69,6 +68,6 @@ arguments gs c (Store register address) n = argument (goodRegister register) Reg
 arguments gs c Reset n = []
 
 -- the leftmost argument outside its limits refuses
-unfoldable pub checkAll : State → List Argument → Decision → Decision
-checkAll s [] d = d
-checkAll s (a ∷ more) d = check s (a .fits) (Limit (a .kind) (a .place)) (checkAll s more d)
+unfoldable pub checkAll : List Argument → Decision → Decision
+checkAll [] d = d
+checkAll (a ∷ more) d = check (a .fits) (Limit (a .kind) (a .place)) (checkAll more d)

@@ -2,80 +2,69 @@
 -- in the paper's order. Check 3, where a call has it, follows check 2 and stands in Arguments.
 use Prim.Native.Nat.{ℕ, _+_, _*_}
 use mathlib.Core.Bool.{Bool, true, false, not}
-use lib.ListN.{set}
 use lib.Dec.{leb, ltb, eqb}
 use Rattle.lists.specs.Choice.{choose, both, either, implies}
 use Rattle.model.specs.declared.Answer.the-variants.{Unsound, BadCaller, NameTaken, NoSpace, NotOwner, NoSharing, AllowanceUsed, SlotsUsed, NoRun, NoIdentification, NotPermitted, ListFull, AletSpecification, AlenTranslation, Addressing, Protection, SpecialOperation, PrimarySpace}
 use Rattle.model.specs.declared.Call.{Call}
 use Rattle.model.specs.declared.Caller.{Caller}
+use Rattle.model.specs.declared.Change.{Change}
+use Rattle.model.specs.declared.Change.the-variants.{Keep, SetPermit, SetEntry, SetRegister, SetMode, AddSpace, AddGuest, DropSpace, CloseSpace, ClearGuest}
+use Rattle.model.specs.declared.Guest.{Guest}
 use Rattle.model.specs.declared.Operation.{Operation}
 use Rattle.model.specs.declared.Operation.the-variants.{Enrol, Create, Destroy, Permit, Isolate, Query, Add, Remove, Load, Mode, Fetch, Store, Reset}
 use Rattle.model.specs.declared.Right.{Right}
 use Rattle.model.specs.declared.Right.the-variants.{Read, Write}
+use Rattle.model.specs.declared.Space.{Space}
 use Rattle.model.specs.declared.Standing.the-variants.{Valid}
 use Rattle.model.specs.declared.State.{State}
 use Rattle.model.specs.declared.Translation.{Translation}
 use Rattle.model.specs.declared.Translation.the-variants.{Reached, Refused}
+use Rattle.model.specs.Applied.{applied}
 use Rattle.model.specs.Arguments.{arguments, checkAll}
-use Rattle.model.specs.Changes.{allows, raised, released, releasedAll, withdrawn}
+use Rattle.model.specs.Changes.{allows, raised, released}
 use Rattle.model.specs.Decision.{Decision, Effect, none, clear, fetch, store, refuse, accept, check}
 use Rattle.model.specs.Frames.{framesOf, sizeOf}
 use Rattle.model.specs.Names.{baseName}
-use Rattle.model.specs.Searches.{enrolled, isOwned, isData, slotOf, slotNamed, dataSpaces, freeSlot, freeRun, freeEntry}
+use Rattle.model.specs.Searches.{enrolled, slotOf, slotNamed, dataSpaces, freeSlot, freeRun, freeEntry}
 use Rattle.model.specs.Sizes.{guestCount, slotCount, frameSize, spentIdentification}
 use Rattle.model.specs.SoundTest.{sound}
-use Rattle.model.specs.Tables.{spaceAt, guestAt, guestPlace, cpuAt, cpuPlace, grantAt, permitPlace, entryAt, entryPlace, withNext, withSpaces, withGuests, withCpus, withPermits, withEntries}
+use Rattle.model.specs.Tables.{spaceAt, guestAt, guestPlace, cpuAt, cpuPlace, grantAt, permitPlace, entryAt, entryPlace}
 use Rattle.model.specs.Tokens.{token, entryNumber, malformed, assigned, tokenUsed}
 use Rattle.model.specs.Translation.{translate}
 
 -- ENROL and CREATE "take the lowest unused space slot and the lowest run of free frames, and fill it with zeros".
--- Both end in the checks 9, 11, 10. `t` are the tables in which the new space stands, but for the space itself.
-unfoldable pub made : State → State → (guest name pages : ℕ) → State
-made s t g name pages =
-    withNext
-    (withSpaces t (set (t .spaces) (freeSlot (s .spaces)) (record {
-      id = s .next;
-      owner = g;
-      name = name;
-      first = freeRun s pages;
-      pages = pages;
-    })))
-    (s .next + 1)
+-- Both end in the checks 9, 11, 10.
+unfoldable pub newSpace : State → (guest name pages : ℕ) → Space
+newSpace s g name pages = record { id = s .next; owner = g; name = name; first = freeRun s pages; pages = pages }
 
-unfoldable pub making : State → State → (guest name pages : ℕ) → Decision
-making s t g name pages =
-    check s (ltb (freeSlot (s .spaces)) slotCount) SlotsUsed
-    (check s (ltb (s .next) spentIdentification) NoIdentification
-    (check s (ltb (freeRun s pages) (s .frames)) NoRun
-    (accept (made s t g name pages) (s .next) (clear (framesOf (made s t g name pages) (freeSlot (s .spaces)))))))
+unfoldable pub making : State → (pages : ℕ) → Change → Decision
+making s pages c =
+    check (ltb (freeSlot (s .spaces)) slotCount) SlotsUsed
+    (check (ltb (s .next) spentIdentification) NoIdentification
+    (check (ltb (freeRun s pages) (s .frames)) NoRun
+    (accept (s .next) c (clear (framesOf (applied s c) (freeSlot (s .spaces)))))))
 
 -- "ENROL guest, pages 1-512, allowance 0-31, share 0/1, L, ASF 0/1: then 3, 9, 11, 10. Makes the guest's primary space,
 -- named BASE. Value: its identification."
-unfoldable pub withEnrolled : State → (guest allowance share list asf : ℕ) → State
-withEnrolled s g allowance share list asf =
-    withGuests s (set (s .guests) (guestPlace g) (record {
-      enrolled = true;
-      allowance = allowance;
-      share = eqb share 1;
-      list = list;
-      asf = eqb asf 1;
-    }))
+unfoldable pub newGuest : (allowance share list asf : ℕ) → Guest
+newGuest allowance share list asf = record { enrolled = true; allowance = allowance; share = eqb share 1; list = list; asf = eqb asf 1 }
 
 unfoldable pub enrol : State → (guest pages allowance share list asf : ℕ) → Decision
-enrol s g pages allowance share list asf = making s (withEnrolled s g allowance share list asf) g baseName pages
+enrol s g pages allowance share list asf =
+    making s pages (AddGuest (freeSlot (s .spaces)) (newSpace s g baseName pages) (guestPlace g) (newGuest allowance share list asf))
 
 -- "CREATE name, pages 1-512: 3, 4, 8, 9, 11, 10. Value: identification. The primary doesn't count in the allowance."
 unfoldable pub create : State → (guest name pages : ℕ) → Decision
 create s g name pages =
-    check s (leb slotCount (slotNamed (s .spaces) g name)) NameTaken
-    (check s (not (eqb (dataSpaces (s .spaces) g) (guestAt (s .guests) g .allowance))) AllowanceUsed
-    (making s s g name pages))
+    check (leb slotCount (slotNamed (s .spaces) g name)) NameTaken
+    (check (not (eqb (dataSpaces (s .spaces) g) (guestAt (s .guests) g .allowance))) AllowanceUsed
+    (making s pages (AddSpace (freeSlot (s .spaces)) (newSpace s g name pages))))
 
 -- the checks 5 and 6, for the space in slot u
 unfoldable pub owning : State → (guest slot : ℕ) → Decision → Decision
 owning s g u d =
-    check s (ltb u slotCount) NoSpace
-    (check s (eqb (spaceAt (s .spaces) u .owner) g) NotOwner d)
+    check (ltb u slotCount) NoSpace
+    (check (eqb (spaceAt (s .spaces) u .owner) g) NotOwner d)
 
 -- "DESTROY space: 5, 6, 20. Every valid entry for it, in every list, becomes revoked. Permits vanish; frames are free for
 -- use again."
@@ -83,22 +72,22 @@ unfoldable pub destroy : State → (guest id : ℕ) → Decision
 destroy s g i =
     let u = slotOf (s .spaces) i in
     owning s g u
-    (check s (not (eqb (spaceAt (s .spaces) u .name) baseName)) PrimarySpace
-    (accept (withdrawn (eqb u) (eqb u) s) 0 none))
+    (check (not (eqb (spaceAt (s .spaces) u .name) baseName)) PrimarySpace
+    (accept 0 (DropSpace u) none))
 
 -- "PERMIT space, guest h, read or write: 3 .., 5, 6, 7. The right becomes the greater of old and new; write includes read."
 unfoldable pub permit : State → (guest id other : ℕ) → Right → Decision
 permit s g i h r =
     let u = slotOf (s .spaces) i in
     owning s g u
-    (check s (guestAt (s .guests) g .share) NoSharing
-    (accept (withPermits s (set (s .permits) (permitPlace u h) (record { grant = raised (grantAt (s .permits) u h) r }))) 0 none))
+    (check (guestAt (s .guests) g .share) NoSharing
+    (accept 0 (SetPermit (permitPlace u h) (record { grant = raised (grantAt (s .permits) u h) r })) none))
 
 -- "ISOLATE space: 5, 6. All permits for it go; other guests' valid entries for it become revoked, the owner's stay."
 unfoldable pub isolate : State → (guest id : ℕ) → Decision
 isolate s g i =
     let u = slotOf (s .spaces) i in
-    owning s g u (accept (withdrawn (λ v. false) (eqb u) s) 0 none)
+    owning s g u (accept 0 (CloseSpace u) none)
 
 -- whether guest g owns the space in slot u, or is permitted the right r to it
 unfoldable pub entitled : State → (guest slot : ℕ) → Right → Bool
@@ -109,7 +98,7 @@ entitled s g u r = either (eqb (spaceAt (s .spaces) u .owner) g) (allows (grantA
 unfoldable pub query : State → (guest owner name : ℕ) → Decision
 query s g owner name =
     let u = slotNamed (s .spaces) owner name in
-    check s (both (ltb u slotCount) (entitled s g u Read)) NoSpace (accept s (spaceAt (s .spaces) u .id) none)
+    check (both (ltb u slotCount) (entitled s g u Read)) NoSpace (accept (spaceAt (s .spaces) u .id) Keep none)
 
 -- "ADD space, read or write: 5, 12, 13. Value: the token. The owner may add either right."
 unfoldable pub add : State → (guest id : ℕ) → Right → Decision
@@ -117,30 +106,27 @@ add s g i r =
     let u = slotOf (s .spaces) i in
     let k = freeEntry (s .entries) g (guestAt (s .guests) g .list) in
     let q = entryAt (s .entries) g (k + 2) .sequence in
-    check s (ltb u slotCount) NoSpace
-    (check s (entitled s g u r) NotPermitted
-    (check s (ltb k (guestAt (s .guests) g .list)) ListFull
-    (accept (withEntries s (set (s .entries) (entryPlace g (k + 2)) (record { standing = Valid u r; sequence = q }))) (token q (k + 2)) none)))
+    check (ltb u slotCount) NoSpace
+    (check (entitled s g u r) NotPermitted
+    (check (ltb k (guestAt (s .guests) g .list)) ListFull
+    (accept (token q (k + 2)) (SetEntry (entryPlace g (k + 2)) (record { standing = Valid u r; sequence = q })) none)))
 
 -- "REMOVE token: 14 (also for token 0), 15. Valid or revoked, the entry becomes unused."
 unfoldable pub remove : State → (guest token : ℕ) → Decision
 remove s g t =
-    check s (not (either (eqb t 0) (malformed t))) AletSpecification
-    (check s (assigned (s .entries) g (guestAt (s .guests) g .list) t) AlenTranslation
-    (accept (withEntries s (set (s .entries) (entryPlace g (entryNumber t)) (released (entryAt (s .entries) g (entryNumber t))))) 0 none))
+    check (not (either (eqb t 0) (malformed t))) AletSpecification
+    (check (assigned (s .entries) g (guestAt (s .guests) g .list) t) AlenTranslation
+    (accept 0 (SetEntry (entryPlace g (entryNumber t)) (released (entryAt (s .entries) g (entryNumber t)))) none))
 
 -- "LOAD register 0-15, any 32-bit value: 3."
-unfoldable pub load : State → Caller → (register value : ℕ) → Decision
-load s c r v =
-    let b = cpuAt (s .cpus) (cpuPlace c) in
-    accept (withCpus s (set (s .cpus) (cpuPlace c) (record { registers = set (b .registers) r v; mode = b .mode }))) 0 none
+unfoldable pub load : Caller → (register value : ℕ) → Decision
+load c r v = accept 0 (SetRegister (cpuPlace c) r v) none
 
 -- "MODE 0 primary, 1 access-register: 3, 19."
 unfoldable pub mode : State → Caller → (mode : ℕ) → Decision
 mode s c m =
-    let b = cpuAt (s .cpus) (cpuPlace c) in
-    check s (implies (eqb m 1) (guestAt (s .guests) (c .guest) .asf)) SpecialOperation
-    (accept (withCpus s (set (s .cpus) (cpuPlace c) (record { registers = b .registers; mode = eqb m 1 }))) 0 none)
+    check (implies (eqb m 1) (guestAt (s .guests) (c .guest) .asf)) SpecialOperation
+    (accept 0 (SetMode (cpuPlace c) (eqb m 1)) none)
 
 -- "FETCH and STORE register, address: 3 (register or length), 14, 15, 16, 17, 18. Bytes of the fetch go to the buffer; a
 -- store replaces only the bytes named." The address and length are added as numbers without a width.
@@ -151,12 +137,12 @@ writes Write = true
 -- what follows translation: the checks 17 and 18, where `storing` tells a store from a fetch
 unfoldable pub accessAt : State → (address buffer : ℕ) → (storing : Bool) → Effect → (slot : ℕ) → Right → Decision
 accessAt s a n storing f u r =
-    check s (leb (a + n) (sizeOf (s .spaces) u)) Addressing
-    (check s (implies storing (writes r)) Protection (accept s 0 f))
+    check (leb (a + n) (sizeOf (s .spaces) u)) Addressing
+    (check (implies storing (writes r)) Protection (accept 0 Keep f))
 
 unfoldable pub access : State → (address buffer : ℕ) → (storing : Bool) → ((slot : ℕ) → Effect) → Translation → Decision
 access s a n storing f (Reached u r) = accessAt s a n storing (f u) u r
-access s a n storing f (Refused x) = refuse s x
+access s a n storing f (Refused x) = refuse x
 
 -- the token that a caller uses through a register, translated
 unfoldable pub target : State → Caller → (register : ℕ) → Translation
@@ -168,15 +154,8 @@ fetching s c r a n = access s a n false (λ u. fetch u a) (target s c r)
 unfoldable pub storing : State → Caller → (register address buffer : ℕ) → Decision
 storing s c r a n = access s a n true (λ u. store u a) (target s c r)
 
--- "RESET: all the caller's entries become unused, its data spaces are destroyed, its primary is isolated. Primary bytes,
--- registers and mode stay"
-unfoldable pub resetTables : State → (guest : ℕ) → State
-resetTables s g =
-    let t = withdrawn (λ u. isData g (spaceAt (s .spaces) u)) (λ u. isOwned g (spaceAt (s .spaces) u)) s in
-    withEntries t (releasedAll g (t .entries))
-
-unfoldable pub reset : State → (guest : ℕ) → Decision
-reset s g = accept (resetTables s g) 0 none
+unfoldable pub reset : (guest : ℕ) → Decision
+reset g = accept 0 (ClearGuest g) none
 
 -- Any call, after the checks 1, 2 and 3.
 unfoldable pub perform : State → Caller → Operation → (buffer : ℕ) → Decision
@@ -188,11 +167,11 @@ perform s c (Isolate id) n = isolate s (c .guest) id
 perform s c (Query owner name) n = query s (c .guest) owner name
 perform s c (Add id right) n = add s (c .guest) id right
 perform s c (Remove token) n = remove s (c .guest) token
-perform s c (Load register value) n = load s c register value
+perform s c (Load register value) n = load c register value
 perform s c (Mode m) n = mode s c m
 perform s c (Fetch register address) n = fetching s c register address n
 perform s c (Store register address) n = storing s c register address n
-perform s c Reset n = reset s (c .guest)
+perform s c Reset n = reset (c .guest)
 
 -- Check 2: "caller not 1 to 8 or not enrolled; for ENROL, not 1 to 8 or already enrolled"
 unfoldable pub enrols : Operation → Bool
@@ -219,8 +198,8 @@ goodCaller s c k = choose (enrols k) (mayEnrol s (c .guest)) (enrolled (s .guest
 -- Checks 2 and 3, and the call: what a caller that holds a sound state and its scratch is answered.
 unfoldable pub judge : State → Call → (buffer : ℕ) → Decision
 judge s k n =
-    check s (goodCaller s (k .caller) (k .operation)) BadCaller
-    (checkAll s (arguments (s .guests) (k .caller) (k .operation) n)
+    check (goodCaller s (k .caller) (k .operation)) BadCaller
+    (checkAll (arguments (s .guests) (k .caller) (k .operation) n)
     (perform s (k .caller) (k .operation) n))
 
 -- Check 1: "state not sound, or scratch length is not F x 4,096"
@@ -229,4 +208,4 @@ ready s m = both (sound s) (eqb m (s .frames * frameSize))
 
 -- The decision on any call: "All check 1, then 2 first." Its type hands it no byte of scratch and none of a buffer.
 unfoldable pub decide : State → (scratch : ℕ) → Call → (buffer : ℕ) → Decision
-decide s m k n = check s (ready s m) Unsound (judge s k n)
+decide s m k n = check (ready s m) Unsound (judge s k n)

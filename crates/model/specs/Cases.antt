@@ -13,6 +13,7 @@ use Rattle.model.specs.declared.Right.the-variants.{Read, Write}
 use Rattle.model.specs.declared.Standing.the-variants.{Valid}
 use Rattle.model.specs.declared.State.{State}
 use Rattle.model.specs.Answers.{number, value}
+use Rattle.model.specs.Decision.{after}
 use Rattle.model.specs.Calls.{decide}
 use Rattle.model.specs.Fresh.{emptyTables}
 use Rattle.model.specs.Names.{baseName}
@@ -36,7 +37,7 @@ unfoldable pub passes : State → List Trial → Bool
 passes s [] = true
 passes s (t ∷ ts) =
     let d = decide s (s .frames * 4096) (byFirst (t .operation)) (t .room) in
-    both (both (eqb (number (d .answer)) (t .answer)) (eqb (value (d .answer)) (t .value))) (passes (d .after) ts)
+    both (both (eqb (number (d .answer)) (t .answer)) (eqb (value (d .answer)) (t .value))) (passes (after s d) ts)
 
 -- guest 1 enrols with one page and a list of L entries, adds its own space, and loads the token t into register 1
 abbrev pub holding : (list : ℕ) → Trial

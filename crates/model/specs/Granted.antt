@@ -5,10 +5,11 @@ use mathlib.Core.Bool.{Bool, true, false}
 use mathlib.Core.List.{List, [], _∷_}
 use mathlib.Core.Logic.{_≢_}
 use mathlib.Core.Path.{_≡_}
-use lib.ListN.{set}
 use lib.Dec.{eqb}
 use Rattle.model.specs.declared.Call.{Call}
 use Rattle.model.specs.declared.Caller.{Caller}
+use Rattle.model.specs.declared.Change.{Change}
+use Rattle.model.specs.declared.Change.the-variants.{Keep, SetPermit, SetEntry, SetRegister, SetMode, AddSpace, AddGuest, DropSpace, CloseSpace, ClearGuest}
 use Rattle.model.specs.declared.Operation.{Operation}
 use Rattle.model.specs.declared.Operation.the-variants.{Enrol, Create, Destroy, Permit, Isolate, Query, Add, Remove, Load, Mode, Fetch, Store, Reset}
 use Rattle.model.specs.declared.Right.{Right}
@@ -16,28 +17,29 @@ use Rattle.model.specs.declared.Right.the-variants.{Read}
 use Rattle.model.specs.declared.Standing.the-variants.{Valid}
 use Rattle.model.specs.declared.State.{State}
 use Rattle.model.specs.declared.Translation.the-variants.{Reached}
+use Rattle.model.specs.Applied.{applied}
 use Rattle.model.specs.Arguments.{Argument, arguments}
-use Rattle.model.specs.Calls.{made, withEnrolled, entitled, writes, target, resetTables, goodCaller, ready}
-use Rattle.model.specs.Changes.{raised, released, withdrawn}
+use Rattle.model.specs.Calls.{newSpace, newGuest, entitled, writes, target, goodCaller, ready}
+use Rattle.model.specs.Changes.{raised, released}
 use Rattle.model.specs.Decision.{Decision, Effect, none, clear, fetch, store, accept}
 use Rattle.model.specs.Frames.{framesOf, sizeOf}
 use Rattle.model.specs.Names.{baseName}
 use Rattle.model.specs.Searches.{slotOf, slotNamed, dataSpaces, freeSlot, freeRun, freeEntry}
 use Rattle.model.specs.Sizes.{slotCount, spentIdentification}
-use Rattle.model.specs.Tables.{spaceAt, guestAt, cpuAt, cpuPlace, grantAt, permitPlace, entryAt, entryPlace, withCpus, withPermits, withEntries}
+use Rattle.model.specs.Tables.{spaceAt, guestAt, guestPlace, cpuPlace, grantAt, permitPlace, entryAt, entryPlace}
 use Rattle.model.specs.Tokens.{token, entryNumber, malformed, assigned}
 
 -- a space was made
-pub record Made (s t : State) (g name pages : ℕ) (d : Decision) : Type 0 where
+pub record Made (s : State) (pages : ℕ) (c : Change) (d : Decision) : Type 0 where
   pub slot : freeSlot (s .spaces) < slotCount
   pub next : s .next < spentIdentification
   pub run : freeRun s pages < s .frames
-  pub is : d ≡ accept (made s t g name pages) (s .next) (clear (framesOf (made s t g name pages) (freeSlot (s .spaces))))
+  pub is : d ≡ accept (s .next) c (clear (framesOf (applied s c) (freeSlot (s .spaces))))
 
 pub record Created (s : State) (g name pages : ℕ) (d : Decision) : Type 0 where
   pub new : slotCount ≤ slotNamed (s .spaces) g name
   pub room : dataSpaces (s .spaces) g ≢ guestAt (s .guests) g .allowance
-  pub made : Made s s g name pages d
+  pub made : Made s pages (AddSpace (freeSlot (s .spaces)) (newSpace s g name pages)) d
 
 -- the space i is live in slot u and guest g owns it
 pub record Owning (s : State) (g u : ℕ) : Type 0 where
@@ -47,21 +49,21 @@ pub record Owning (s : State) (g u : ℕ) : Type 0 where
 pub record Destroyed (s : State) (g i : ℕ) (d : Decision) : Type 0 where
   pub owning : Owning s g (slotOf (s .spaces) i)
   pub not-primary : spaceAt (s .spaces) (slotOf (s .spaces) i) .name ≢ baseName
-  pub is : d ≡ accept (withdrawn (eqb (slotOf (s .spaces) i)) (eqb (slotOf (s .spaces) i)) s) 0 none
+  pub is : d ≡ accept 0 (DropSpace (slotOf (s .spaces) i)) none
 
 pub record Permitted (s : State) (g i h : ℕ) (r : Right) (d : Decision) : Type 0 where
   pub owning : Owning s g (slotOf (s .spaces) i)
   pub sharing : guestAt (s .guests) g .share ≡ true
-  pub is : d ≡ accept (withPermits s (set (s .permits) (permitPlace (slotOf (s .spaces) i) h) (record { grant = raised (grantAt (s .permits) (slotOf (s .spaces) i) h) r }))) 0 none
+  pub is : d ≡ accept 0 (SetPermit (permitPlace (slotOf (s .spaces) i) h) (record { grant = raised (grantAt (s .permits) (slotOf (s .spaces) i) h) r })) none
 
 pub record Isolated (s : State) (g i : ℕ) (d : Decision) : Type 0 where
   pub owning : Owning s g (slotOf (s .spaces) i)
-  pub is : d ≡ accept (withdrawn (λ v. false) (eqb (slotOf (s .spaces) i)) s) 0 none
+  pub is : d ≡ accept 0 (CloseSpace (slotOf (s .spaces) i)) none
 
 pub record Queried (s : State) (g owner name : ℕ) (d : Decision) : Type 0 where
   pub slot : slotNamed (s .spaces) owner name < slotCount
   pub right : entitled s g (slotNamed (s .spaces) owner name) Read ≡ true
-  pub is : d ≡ accept s (spaceAt (s .spaces) (slotNamed (s .spaces) owner name) .id) none
+  pub is : d ≡ accept (spaceAt (s .spaces) (slotNamed (s .spaces) owner name) .id) Keep none
 
 -- the number of the entry that ADD takes
 abbrev pub addedEntry : State → (guest : ℕ) → ℕ
@@ -71,20 +73,20 @@ pub record Added (s : State) (g i : ℕ) (r : Right) (d : Decision) : Type 0 whe
   pub slot : slotOf (s .spaces) i < slotCount
   pub right : entitled s g (slotOf (s .spaces) i) r ≡ true
   pub room : freeEntry (s .entries) g (guestAt (s .guests) g .list) < guestAt (s .guests) g .list
-  pub is : d ≡ accept (withEntries s (set (s .entries) (entryPlace g (addedEntry s g)) (record { standing = Valid (slotOf (s .spaces) i) r; sequence = entryAt (s .entries) g (addedEntry s g) .sequence }))) (token (entryAt (s .entries) g (addedEntry s g) .sequence) (addedEntry s g)) none
+  pub is : d ≡ accept (token (entryAt (s .entries) g (addedEntry s g) .sequence) (addedEntry s g)) (SetEntry (entryPlace g (addedEntry s g)) (record { standing = Valid (slotOf (s .spaces) i) r; sequence = entryAt (s .entries) g (addedEntry s g) .sequence })) none
 
 pub record Removed (s : State) (g t : ℕ) (d : Decision) : Type 0 where
   pub not-zero : t ≢ 0
   pub formed : malformed t ≡ false
   pub assigned : assigned (s .entries) g (guestAt (s .guests) g .list) t ≡ true
-  pub is : d ≡ accept (withEntries s (set (s .entries) (entryPlace g (entryNumber t)) (released (entryAt (s .entries) g (entryNumber t))))) 0 none
+  pub is : d ≡ accept 0 (SetEntry (entryPlace g (entryNumber t)) (released (entryAt (s .entries) g (entryNumber t)))) none
 
 pub record Loaded (s : State) (c : Caller) (r v : ℕ) (d : Decision) : Type 0 where
-  pub is : d ≡ accept (withCpus s (set (s .cpus) (cpuPlace c) (record { registers = set (cpuAt (s .cpus) (cpuPlace c) .registers) r v; mode = cpuAt (s .cpus) (cpuPlace c) .mode }))) 0 none
+  pub is : d ≡ accept 0 (SetRegister (cpuPlace c) r v) none
 
 pub record ModeSet (s : State) (c : Caller) (m : ℕ) (d : Decision) : Type 0 where
   pub asf : m ≡ 1 → guestAt (s .guests) (c .guest) .asf ≡ true
-  pub is : d ≡ accept (withCpus s (set (s .cpus) (cpuPlace c) (record { registers = cpuAt (s .cpus) (cpuPlace c) .registers; mode = eqb m 1 }))) 0 none
+  pub is : d ≡ accept 0 (SetMode (cpuPlace c) (eqb m 1)) none
 
 -- a fetch or store: the token used was translated to the space in `slot` with `right`
 pub record Accessed (s : State) (c : Caller) (r a n : ℕ) (storing : Bool) (f : ℕ → Effect) (d : Decision) : Type 0 where
@@ -93,13 +95,13 @@ pub record Accessed (s : State) (c : Caller) (r a n : ℕ) (storing : Bool) (f :
   pub reached : target s c r ≡ Reached slot right
   pub inside : a + n ≤ sizeOf (s .spaces) slot
   pub writable : storing ≡ true → writes right ≡ true
-  pub is : d ≡ accept s 0 (f slot)
+  pub is : d ≡ accept 0 Keep (f slot)
 
 pub record ResetDone (s : State) (g : ℕ) (d : Decision) : Type 0 where
-  pub is : d ≡ accept (resetTables s g) 0 none
+  pub is : d ≡ accept 0 (ClearGuest g) none
 
 unfoldable pub Performed : State → Caller → Operation → (buffer : ℕ) → Decision → Type 0
-Performed s c (Enrol pages allowance share list asf) n d = Made s (withEnrolled s (c .guest) allowance share list asf) (c .guest) baseName pages d
+Performed s c (Enrol pages allowance share list asf) n d = Made s pages (AddGuest (freeSlot (s .spaces)) (newSpace s (c .guest) baseName pages) (guestPlace (c .guest)) (newGuest allowance share list asf)) d
 Performed s c (Create name pages) n d = Created s (c .guest) name pages d
 Performed s c (Destroy id) n d = Destroyed s (c .guest) id d
 Performed s c (Permit id guest right) n d = Permitted s (c .guest) id guest right d

@@ -4,7 +4,7 @@ use Prim.Native.Nat.{ℕ, _+_, _≤_}
 use mathlib.Core.Logic.{_⊎_}
 use mathlib.Core.Path.{_≡_}
 use Rattle.model.specs.declared.State.{State}
-use Rattle.model.specs.Decision.{Decision, Effect, none, clear, fetch, store}
+use Rattle.model.specs.Decision.{Decision, after, Effect, none, clear, fetch, store}
 use Rattle.model.specs.Frames.{layout, frameOf, framesOf, sizeOf}
 use Rattle.model.specs.Sound.{Live}
 use Rattle.model.specs.Tables.{spaceAt}
@@ -32,6 +32,6 @@ EffectInside t n (fetch u a) = Inside t u a n
 EffectInside t n (store u a) = Inside t u a n
 
 pub record Lawful (s : State) (n : ℕ) (d : Decision) : Type 0 where
-  pub frames : d .after .frames ≡ s .frames
-  pub kept : (u : ℕ) → Live (d .after .spaces) u → SameSpace s (d .after) u ⊎ ClearsSpace (d .after) (d .effect) u
-  pub inside : EffectInside (d .after) n (d .effect)
+  pub frames : after s d .frames ≡ s .frames
+  pub kept : (u : ℕ) → Live (after s d .spaces) u → SameSpace s (after s d) u ⊎ ClearsSpace (after s d) (d .effect) u
+  pub inside : EffectInside (after s d) n (d .effect)

@@ -8,6 +8,7 @@ use Rattle.model.specs.declared.Call.{Call}
 use Rattle.model.specs.declared.Guest.{Guest}
 use Rattle.model.specs.declared.State.{State}
 use Rattle.model.specs.Calls.{judge}
+use Rattle.model.specs.Decision.{after}
 use Rattle.model.specs.Searches.{enrolled}
 use Rattle.model.specs.Step.{scratchAfter, bufferAfter}
 use Rattle.model.specs.Tables.{guestPlace}
@@ -22,7 +23,7 @@ flag l u = getD l u false
 
 -- scratch and the lent buffer after the checks 2 and 3 and the call
 unfoldable pub scratchJudged : State → Call → (scratch buffer : List ℕ) → List ℕ
-scratchJudged s k m b = scratchAfter (judge s k (length b) .after) (judge s k (length b) .effect) m b
+scratchJudged s k m b = scratchAfter (after s (judge s k (length b))) (judge s k (length b) .effect) m b
 
 unfoldable pub bufferJudged : State → Call → (scratch buffer : List ℕ) → List ℕ
-bufferJudged s k m b = bufferAfter (judge s k (length b) .after) (judge s k (length b) .effect) m b
+bufferJudged s k m b = bufferAfter (after s (judge s k (length b))) (judge s k (length b) .effect) m b

@@ -13,6 +13,7 @@ pub mod Answers
 pub mod Searches
 pub mod Runs
 pub mod Changes
+pub mod Applied
 pub mod Decision
 pub mod Arguments
 pub mod Calls

@@ -5,13 +5,13 @@ use Rattle.model.specs.declared.Caller.{Caller}
 use Rattle.model.specs.declared.Operation.{Operation}
 use Rattle.model.specs.declared.Reply.{Reply}
 use Rattle.model.specs.declared.State.{State}
-use Rattle.model.specs.Decision.{Decision}
+use Rattle.model.specs.Decision.{Decision, after}
 
 abbrev pub reply : Answer → State → Reply
 reply a s = record { answer = a; state = s }
 
-unfoldable pub replied : Decision → Reply
-replied d = reply (d .answer) (d .after)
+unfoldable pub replied : State → Decision → Reply
+replied s d = reply (d .answer) (after s d)
 
 abbrev pub callOf : Caller → Operation → Call
 callOf c o = record { caller = c; operation = o }

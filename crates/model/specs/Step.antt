@@ -10,7 +10,7 @@ use Rattle.model.specs.declared.Answer.{Answer}
 use Rattle.model.specs.declared.Call.{Call}
 use Rattle.model.specs.declared.State.{State}
 use Rattle.model.specs.Calls.{decide}
-use Rattle.model.specs.Decision.{Decision, Effect, none, clear, fetch, store}
+use Rattle.model.specs.Decision.{Decision, after, Effect, none, clear, fetch, store}
 use Rattle.model.specs.Frames.{layout, placeOf}
 use Rattle.model.specs.Sizes.{frameSize}
 use Rattle.model.specs.Sound.{Sound}
@@ -62,8 +62,8 @@ decision m i = decide (m .tables) (length (m .scratch)) (i .call) (length (i .bu
 abbrev pub outcome : Machine → Issue → Decision → Outcome
 outcome m i d = record {
   answer = d .answer;
-  machine = record { tables = d .after; scratch = scratchAfter (d .after) (d .effect) (m .scratch) (i .buffer) };
-  buffer = bufferAfter (d .after) (d .effect) (m .scratch) (i .buffer);
+  machine = record { tables = after (m .tables) d; scratch = scratchAfter (after (m .tables) d) (d .effect) (m .scratch) (i .buffer) };
+  buffer = bufferAfter (after (m .tables) d) (d .effect) (m .scratch) (i .buffer);
 }
 
 unfoldable pub step : Machine → Issue → Outcome

@@ -9,7 +9,6 @@ use Rattle.lists.specs.Choice.{either}
 use Rattle.model.specs.declared.Answer.{Answer}
 use Rattle.model.specs.declared.Operation.{Operation}
 use Rattle.model.specs.declared.Operation.the-variants.{Enrol, Create, Destroy, Permit, Isolate, Query, Add, Remove, Load, Mode, Fetch, Store, Reset}
-use Rattle.model.specs.declared.State.{State}
 use Rattle.model.specs.Answers.{number}
 use Rattle.model.specs.Decision.{Decision, refuse}
 
@@ -38,12 +37,12 @@ unfoldable pub listed : ℕ → List ℕ → Bool
 listed n [] = false
 listed n (k ∷ ks) = either (eqb n k) (listed n ks)
 
-pub record Refusal (s : State) (answers : List ℕ) (d : Decision) : Type 0 where
+pub record Refusal (answers : List ℕ) (d : Decision) : Type 0 where
   pub answer : Answer
   pub not-done : eqb (number answer) 0 ≡ false
   pub listed : listed (number answer) answers ≡ true
-  pub is : d ≡ refuse s answer
+  pub is : d ≡ refuse answer
 
-pub data Verdict (s : State) (answers : List ℕ) (Good : Decision → Type 0) (d : Decision) : Type 0 where
-  refused : Refusal s answers d → Verdict s answers Good d
-  granted : Good d → Verdict s answers Good d
+pub data Verdict (answers : List ℕ) (Good : Decision → Type 0) (d : Decision) : Type 0 where
+  refused : Refusal answers d → Verdict answers Good d
+  granted : Good d → Verdict answers Good d

@@ -171,6 +171,53 @@ pub struct Call {
     pub operation: Operation,
 }
 
+// One change of the tables. A place is that of the element in its table.
+pub enum Change {
+    Keep,
+    SetPermit {
+        place: u16,
+        permit: Permit,
+    },
+    SetEntry {
+        place: u16,
+        entry: Entry,
+    },
+    SetRegister {
+        cpu: u8,
+        register: u8,
+        value: u32,
+    },
+    SetMode {
+        cpu: u8,
+        mode: bool,
+    },
+    AddSpace {
+        slot: u8,
+        space: Space,
+    },
+    AddGuest {
+        slot: u8,
+        space: Space,
+        place: u8,
+        guest: Guest,
+    },
+    DropSpace {
+        slot: u8,
+    },
+    CloseSpace {
+        slot: u8,
+    },
+    ClearGuest {
+        guest: u8,
+    },
+}
+
+// What is decided of a call: the answer, and the change that it makes.
+pub struct Judgement {
+    pub answer: Answer,
+    pub change: Change,
+}
+
 // What a call returns: the answer and the tables after it.
 pub struct Reply {
     pub answer: Answer,

@@ -22,7 +22,7 @@ use Rattle.model.specs.declared.State.{State}
 use Rattle.model.specs.Arguments.{arguments, checkAll}
 use Rattle.model.specs.Calls.{judge, goodCaller, enrols, perform, owning, permit, query, add, remove}
 use Rattle.model.specs.Changes.{allows, raised, released}
-use Rattle.model.specs.Decision.{Decision, check}
+use Rattle.model.specs.Decision.{Decision, after, check}
 use Rattle.model.specs.Leaves.{callerPlace}
 use Rattle.model.specs.Names.{goodName}
 use Rattle.model.specs.Replies.{reply, replied, callOf}
@@ -37,7 +37,7 @@ use Rattle.rights.proofs.Rules.{answered, other-yes, other-is, share-is
 module _ (s : State) (c : Caller) (at : ℕ) (e : at ≡ callerPlace (s .guests) (c .guest)) (l : at < 8) where
   pub permit-done : (i h to u : ℕ) (r : Right) (p : Grant) → to ≡ otherPlace (s .guests) c h → to < 8 → u ≡ slotOf (s .spaces) i → u < 32
       → spaceAt (s .spaces) u .owner ≡ c .guest → not (getD (s .guests) at noGuest .share) ≡ false → p ≡ raised (getD (s .permits) (u * 8 + to) noPermit .grant) r
-      → reply (Done 0) (withPermits s (set (s .permits) (u * 8 + to) (record { grant = p }))) ≡ replied (judge s (callOf c (Permit i h r)) 0)
+      → reply (Done 0) (withPermits s (set (s .permits) (u * 8 + to) (record { grant = p }))) ≡ replied s (judge s (callOf c (Permit i h r)) 0)
   unfolding judge goodCaller enrols choose arguments checkAll perform permit owning replied
   permit-done i h to u r p f m q b o share raise =
       go-on _ s _ _ _ (place-yes at (s .guests) (c .guest) e l)
@@ -52,7 +52,7 @@ module _ (s : State) (c : Caller) (at : ℕ) (e : at ≡ callerPlace (s .guests)
   pub add-done : (i u k : ℕ) (r : Right) (b : Bool) (x : Reply) → u ≡ slotOf (s .spaces) i → u < 32
       → b ≡ either (eqb (spaceAt (s .spaces) u .owner) (c .guest)) (allows (getD (s .permits) (u * 8 + at) noPermit .grant) r) → not b ≡ false
       → k ≡ freeEntry (s .entries) (at + 1) (getD (s .guests) at noGuest .list) → k < getD (s .guests) at noGuest .list
-      → x ≡ entered s at k u r → x ≡ replied (judge s (callOf c (Add i r)) 0)
+      → x ≡ entered s at k u r → x ≡ replied s (judge s (callOf c (Add i r)) 0)
   unfolding judge goodCaller enrols choose arguments checkAll perform add replied entered
   add-done i u k r b x q h a y f room done =
       let n = freeEntry (s .entries) (c .guest) (guestAt (s .guests) (c .guest) .list) in
@@ -68,7 +68,7 @@ module _ (s : State) (c : Caller) (at : ℕ) (e : at ≡ callerPlace (s .guests)
   pub remove-done : (t : ℕ) (m b : Bool) (x : Entry) → (t ≡ 0 → ⊥) → m ≡ malformed t → m ≡ false
       → b ≡ assignedTo (getD (s .entries) (at * 30 + (t % 65536 - 2)) unusedEntry) (getD (s .guests) at noGuest .list) t → not b ≡ false
       → x ≡ released (getD (s .entries) (at * 30 + (t % 65536 - 2)) unusedEntry)
-      → reply (Done 0) (withEntries s (set (s .entries) (at * 30 + (t % 65536 - 2)) x)) ≡ replied (judge s (callOf c (Remove t)) 0)
+      → reply (Done 0) (withEntries s (set (s .entries) (at * 30 + (t % 65536 - 2)) x)) ≡ replied s (judge s (callOf c (Remove t)) 0)
   unfolding judge goodCaller enrols choose arguments checkAll perform remove replied
   remove-done t m b x z f w a y g =
       go-on _ s _ _ _ (place-yes at (s .guests) (c .guest) e l)
@@ -90,15 +90,15 @@ module _ (s : State) (c : Caller) (at : ℕ) (e : at ≡ callerPlace (s .guests)
       (go-on _ s _ _ _ (both-intro _ _ (lt-ltb u 32 h) (test-yes b _ (entitled-is s at (c .guest) e l u u Read b refl a) y)) refl)))))
 
 -- QUERY changes no table, whatever it answers
-check-keeps : (s : State) (b : Bool) (a : Answer) (d : Decision) → d .after ≡ s → check s b a d .after ≡ s
+check-keeps : (s : State) (b : Bool) (a : Answer) (d : Decision) → after s d ≡ s → after s (check b a d) ≡ s
 unfolding check
 check-keeps s true a d e = e
 check-keeps s false a d e = refl
 
-pub query-keeps : (s : State) (c : Caller) (o name n : ℕ) → judge s (callOf c (Query o name)) n .after ≡ s
+pub query-keeps : (s : State) (c : Caller) (o name n : ℕ) → after s (judge s (callOf c (Query o name)) n) ≡ s
 unfolding judge arguments checkAll perform query
 query-keeps s c o name n = check-keeps s _ _ _ (check-keeps s _ _ _ (check-keeps s _ _ _ (check-keeps s _ _ _ refl)))
 
-pub query-replied : (s : State) (c : Caller) (o name n : ℕ) (x : Answer) → x ≡ judge s (callOf c (Query o name)) n .answer → reply x s ≡ replied (judge s (callOf c (Query o name)) n)
+pub query-replied : (s : State) (c : Caller) (o name n : ℕ) (x : Answer) → x ≡ judge s (callOf c (Query o name)) n .answer → reply x s ≡ replied s (judge s (callOf c (Query o name)) n)
 unfolding replied
 query-replied s c o name n x e = ap₂ reply e (sym (query-keeps s c o name n))

@@ -38,11 +38,11 @@ use Rattle.entries.specs.Assigned.{assignedTo}
 use Rattle.rights.specs.Leaves.{otherPlace}
 
 -- a refusal
-pub refused-at : (x : Reply) (s : State) (b : Bool) (a : Answer) (d : Decision) → x ≡ reply a s → b ≡ false → x ≡ replied (check s b a d)
+pub refused-at : (x : Reply) (s : State) (b : Bool) (a : Answer) (d : Decision) → x ≡ reply a s → b ≡ false → x ≡ replied s (check b a d)
 refused-at x s b a d e n = e ∙ refuse-at s b a d n
 
 -- a call that changes no table returns its answer alone
-pub answered : (x : Answer) (s : State) (k : Call) (n : ℕ) → reply x s ≡ replied (judge s k n) → x ≡ judge s k n .answer
+pub answered : (x : Answer) (s : State) (k : Call) (n : ℕ) → reply x s ≡ replied s (judge s k n) → x ≡ judge s k n .answer
 unfolding replied
 answered x s k n e = ap (λ (r : Reply). r .answer) e
 
@@ -52,11 +52,11 @@ module _ (x : Reply) (s : State) (c : Caller) (o : Operation) (n at : ℕ) (plai
   unfolding goodCaller
   caller-test = no! _ _ plain
 
-  pub bad-caller : 8 ≤ at → x ≡ reply BadCaller s → x ≡ replied (judge s (callOf c o) n)
+  pub bad-caller : 8 ≤ at → x ≡ reply BadCaller s → x ≡ replied s (judge s (callOf c o) n)
   unfolding judge
   bad-caller h r = refused-at x s _ _ _ r (caller-test ∙ place-no at (s .guests) (c .guest) e h)
 
-  pub good-caller : at < 8 → x ≡ replied (checkAll s (arguments (s .guests) c o n) (perform s c o n)) → x ≡ replied (judge s (callOf c o) n)
+  pub good-caller : at < 8 → x ≡ replied s (checkAll (arguments (s .guests) c o n) (perform s c o n)) → x ≡ replied s (judge s (callOf c o) n)
   unfolding judge
   good-caller l r = go-on x s _ _ _ (caller-test ∙ place-yes at (s .guests) (c .guest) e l) r
 

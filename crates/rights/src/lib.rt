@@ -45,7 +45,7 @@ fn other_place(guests: [Guest; 8], caller: Caller, guest: u32) -> usize
 // The right becomes the greater of old and new.
 pub fn permit(mut s: State, caller: Caller, id: u32, guest: u32, right: Right) -> Reply
     requires { ⌜ sound s ≡ true ⌝ }
-    ensures { λ r. ⌜ r ≡ replied (judge s (callOf caller (PermitCall id guest right)) 0) ⌝ }
+    ensures { λ r. ⌜ r ≡ replied s (judge s (callOf caller (PermitCall id guest right)) 0) ⌝ }
 {
     let gs = s.guests;
     let at = lookup::caller_place(gs, caller.guest);
@@ -163,7 +163,7 @@ fn enter(mut s: State, place: usize, k: usize, slot: usize, right: Right) -> Rep
 // The lowest unused entry of the list stands for the space.
 pub fn add(s: State, caller: Caller, id: u32, right: Right) -> Reply
     requires { ⌜ sound s ≡ true ⌝ }
-    ensures { λ r. ⌜ r ≡ replied (judge s (callOf caller (Add id right)) 0) ⌝ }
+    ensures { λ r. ⌜ r ≡ replied s (judge s (callOf caller (Add id right)) 0) ⌝ }
 {
     let gs = s.guests;
     let at = lookup::caller_place(gs, caller.guest);
@@ -193,7 +193,7 @@ pub fn add(s: State, caller: Caller, id: u32, right: Right) -> Reply
 // Valid or revoked, the entry becomes unused.
 pub fn remove(mut s: State, caller: Caller, token: u32) -> Reply
     requires { ⌜ sound s ≡ true ⌝ }
-    ensures { λ r. ⌜ r ≡ replied (judge s (callOf caller (Remove token)) 0) ⌝ }
+    ensures { λ r. ⌜ r ≡ replied s (judge s (callOf caller (Remove token)) 0) ⌝ }
 {
     let gs = s.guests;
     let at = lookup::caller_place(gs, caller.guest);

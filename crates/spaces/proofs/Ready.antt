@@ -52,7 +52,7 @@ serves s k m b m' b' r x e t d =
 module _ (s : State) (c : Caller) (k : Operation) (m : List ℕ) (x : Bool) where
   -- tables alone
   pub changes-tables : Unmoving (touch k) → LeavesScratch (touch k) → LeavesBuffer (touch k) → (r : Reply) → x ≡ ready s (length m) → x ≡ true
-      → r ≡ replied (judge s (callOf c k) 0) → Promise (stepOf s m (callOf c k) []) (r .answer) (r .state) m []
+      → r ≡ replied s (judge s (callOf c k) 0) → Promise (stepOf s m (callOf c k) []) (r .answer) (r .state) m []
   changes-tables u ls lb r e t q = serves s (callOf c k) m [] m [] r x e t (still s c k m [] u ls lb r q)
 
   -- nothing: an answer alone
@@ -62,7 +62,7 @@ module _ (s : State) (c : Caller) (k : Operation) (m : List ℕ) (x : Bool) wher
 
   -- a space made
   pub makes : Unmoving (touch k) → LeavesBuffer (touch k) → (r : Reply) (m' : List ℕ) → x ≡ ready s (length m) → x ≡ true
-      → MadeBy (judge s (callOf c k) 0) r m m' → Promise (stepOf s m (callOf c k) []) (r .answer) (r .state) m' []
+      → MadeBy s (judge s (callOf c k) 0) r m m' → Promise (stepOf s m (callOf c k) []) (r .answer) (r .state) m' []
   makes u lb r m' e t q = serves s (callOf c k) m [] m' [] r x e t (made s c k m [] u lb r m' q)
 
   -- bytes moved

@@ -61,7 +61,7 @@ module _ (s : State) (k : Call) (m b m' b' : List ℕ) (r : Reply) (d : Served s
   unfolding step replied scratchJudged bufferJudged decide
   served-step e =
       rw (d .reply, d .scratch, d .buffer)
-      (ap (λ (x : Decision). outcome (record { tables = s; scratch = m }) (record { call = k; buffer = b }) x) (check-yes s Unsound (judge s k (length b)) e))
+      (ap (λ (x : Decision). outcome (record { tables = s; scratch = m }) (record { call = k; buffer = b }) x) (check-yes Unsound (judge s k (length b)) e))
 
 -- a call with the data d, where a FRAMES has been done, takes a step of the model
 module _ (h : Host) (m d : List ℕ) (k : Call) (size : ℕ) (b : h .begun ≡ true) where

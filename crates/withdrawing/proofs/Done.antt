@@ -16,7 +16,8 @@ use Rattle.model.specs.declared.Permit.{Permit}
 use Rattle.model.specs.declared.Space.{Space}
 use Rattle.model.specs.declared.State.{State}
 use Rattle.model.specs.Arguments.{arguments, checkAll}
-use Rattle.model.specs.Calls.{judge, goodCaller, enrols, perform, owning, destroy, isolate, reset, resetTables}
+use Rattle.model.specs.Applied.{resetTables}
+use Rattle.model.specs.Calls.{judge, goodCaller, enrols, perform, owning, destroy, isolate, reset}
 use Rattle.model.specs.Changes.{releasedAll, vacated, unpermitted, loses, revokedAll, withdrawn}
 use Rattle.model.specs.Leaves.{callerPlace, flag}
 use Rattle.model.specs.Names.{baseName}
@@ -49,7 +50,7 @@ withdrawn-by s gone closed p q a b = ap₂ (λ x y. withdrawn x y s) (fun-ext (a
 
 module _ (s : State) (c : Caller) (at : ℕ) (e : at ≡ callerPlace (s .guests) (c .guest)) (l : at < 8) where
   pub destroy-done : (i u : ℕ) (one : List Bool) (t : State) → u ≡ slotOf (s .spaces) i → u < 32 → spaceAt (s .spaces) u .owner ≡ c .guest → (spaceAt (s .spaces) u .name ≡ baseName → ⊥)
-      → IsSet (eqb u) one → t ≡ withdrawn (flag one) (flag one) s → reply (Done 0) t ≡ replied (judge s (callOf c (Destroy i)) 0)
+      → IsSet (eqb u) one → t ≡ withdrawn (flag one) (flag one) s → reply (Done 0) t ≡ replied s (judge s (callOf c (Destroy i)) 0)
   unfolding judge goodCaller enrols choose arguments checkAll perform destroy owning replied
   destroy-done i u one t f h o n q w =
       go-on _ s _ _ _ (place-yes at (s .guests) (c .guest) e l)
@@ -59,7 +60,7 @@ module _ (s : State) (c : Caller) (at : ℕ) (e : at ≡ callerPlace (s .guests)
       (go-on _ s _ _ _ (ap not (ne-eqb _ baseName n)) (ap (reply (Done 0)) (w ∙ withdrawn-by s one one (eqb u) (eqb u) q q))))))
 
   pub isolate-done : (i u : ℕ) (one : List Bool) (t : State) → u ≡ slotOf (s .spaces) i → u < 32 → spaceAt (s .spaces) u .owner ≡ c .guest
-      → IsSet (eqb u) one → t ≡ withdrawn (flag (replicate 33 false)) (flag one) s → reply (Done 0) t ≡ replied (judge s (callOf c (Isolate i)) 0)
+      → IsSet (eqb u) one → t ≡ withdrawn (flag (replicate 33 false)) (flag one) s → reply (Done 0) t ≡ replied s (judge s (callOf c (Isolate i)) 0)
   unfolding judge goodCaller enrols choose arguments checkAll perform isolate owning replied
   isolate-done i u one t f h o q w =
       go-on _ s _ _ _ (place-yes at (s .guests) (c .guest) e l)
@@ -69,7 +70,7 @@ module _ (s : State) (c : Caller) (at : ℕ) (e : at ≡ callerPlace (s .guests)
       (ap (reply (Done 0)) (w ∙ withdrawn-by s (replicate 33 false) one (λ v. false) (eqb u) none-set q)))))
 
   pub reset-done : (gone closed : List Bool) (t : State) (es : List Entry) → IsSet (dataSlots (s .spaces) (c .guest)) gone → IsSet (ownedSlots (s .spaces) (c .guest)) closed
-      → t ≡ withdrawn (flag gone) (flag closed) s → es ≡ releasedAll (c .guest) (t .entries) → reply (Done 0) (withEntries t es) ≡ replied (judge s (callOf c Reset) 0)
+      → t ≡ withdrawn (flag gone) (flag closed) s → es ≡ releasedAll (c .guest) (t .entries) → reply (Done 0) (withEntries t es) ≡ replied s (judge s (callOf c Reset) 0)
   unfolding judge goodCaller enrols choose arguments checkAll perform reset resetTables replied ownedSlots dataSlots
   reset-done gone closed t es p q w r =
       go-on _ s _ _ _ (place-yes at (s .guests) (c .guest) e l)

@@ -206,7 +206,7 @@ fn owned_slots(spaces: [Space; 32], owner: u32) -> [bool; 33]
 // Every valid entry for the space becomes revoked, its permits vanish, and its frames are free for use again.
 pub fn destroy(s: State, caller: Caller, id: u32) -> Reply
     requires { ⌜ sound s ≡ true ⌝ }
-    ensures { λ r. ⌜ r ≡ replied (judge s (callOf caller (Destroy id)) 0) ⌝ }
+    ensures { λ r. ⌜ r ≡ replied s (judge s (callOf caller (Destroy id)) 0) ⌝ }
 {
     let guests = s.guests;
     let at = lookup::caller_place(guests, caller.guest);
@@ -247,7 +247,7 @@ pub fn destroy(s: State, caller: Caller, id: u32) -> Reply
 // All permits for the space go, and with them other guests' entries for it; the owner's stay.
 pub fn isolate(s: State, caller: Caller, id: u32) -> Reply
     requires { ⌜ sound s ≡ true ⌝ }
-    ensures { λ r. ⌜ r ≡ replied (judge s (callOf caller (Isolate id)) 0) ⌝ }
+    ensures { λ r. ⌜ r ≡ replied s (judge s (callOf caller (Isolate id)) 0) ⌝ }
 {
     let guests = s.guests;
     let at = lookup::caller_place(guests, caller.guest);
@@ -283,7 +283,7 @@ pub fn isolate(s: State, caller: Caller, id: u32) -> Reply
 // The caller's data spaces are destroyed, its primary space is isolated, and all its entries become unused.
 pub fn reset(s: State, caller: Caller) -> Reply
     requires { ⌜ sound s ≡ true ⌝ }
-    ensures { λ r. ⌜ r ≡ replied (judge s (callOf caller Reset) 0) ⌝ }
+    ensures { λ r. ⌜ r ≡ replied s (judge s (callOf caller Reset) 0) ⌝ }
 {
     let guests = s.guests;
     let at = lookup::caller_place(guests, caller.guest);

@@ -12,18 +12,18 @@ free-slot-requires c κs = search needs
 
 returns : tie.Need-returns
 unfolding making
-returns c = search (steps, found, tests) depth 8
+returns c k to = search (steps, found, tests) depth 8
 
 returns-2 : tie.Need-returns-2
 unfolding making
-returns-2 c = search (steps, found, tests) depth 8
+returns-2 c k to = search (steps, found, tests) depth 8
 
 free-run-requires : tie.Need-free-run-requires
 free-run-requires c κs = search needs
 
 returns-3 : tie.Need-returns-3
 unfolding making
-returns-3 c = search (steps, found, tests) depth 8
+returns-3 c k to = search (steps, found, tests) depth 8
 
 cast-from : tie.Need-cast-from
 cast-from c = search needs
