@@ -10,11 +10,11 @@ use Rattle.lists.specs.Bytes.{over, part, put, get}
 use Rattle.lists.specs.Choice.{choose, implies}
 use Rattle.lists.proofs.Bytes.{put-run, get-run}
 use Rattle.lists.proofs.Choice.{choose-eq}
-use Rattle.model.specs.declared.Change.the-variants.{Keep}
 use Rattle.model.specs.declared.Answer.{Answer}
 use Rattle.model.specs.declared.Answer.the-variants.{Addressing, Protection}
 use Rattle.model.specs.declared.Call.{Call}
 use Rattle.model.specs.declared.Caller.{Caller}
+use Rattle.model.specs.declared.Change.the-variants.{Keep}
 use Rattle.model.specs.declared.Operation.the-variants.{Fetch, Store}
 use Rattle.model.specs.declared.Right.{Right}
 use Rattle.model.specs.declared.Space.{Space}
@@ -23,7 +23,7 @@ use Rattle.model.specs.declared.Translation.{Translation}
 use Rattle.model.specs.declared.Translation.the-variants.{Reached, Refused}
 use Rattle.model.specs.Arguments.{goodLength, arguments, checkAll}
 use Rattle.model.specs.Calls.{judge, goodCaller, enrols, perform, fetching, storing, target, access, accessAt, writes}
-use Rattle.model.specs.Decision.{after, Decision, fetch, store, refuse, accept, check}
+use Rattle.model.specs.Decision.{Decision, after, fetch, store, refuse, accept, check}
 use Rattle.model.specs.Frames.{layout, frameOf, placeOf}
 use Rattle.model.specs.Leaves.{scratchJudged, bufferJudged}
 use Rattle.model.specs.Replies.{callOf}
@@ -44,10 +44,10 @@ bufferOf s d m b = bufferAfter (after s d) (d .effect) m b
 abbrev scratchOf : State → Decision → (m b : List ℕ) → List ℕ
 scratchOf s d m b = scratchAfter (after s d) (d .effect) m b
 
-check-answer : (s : State) (t : Bool) (a : Answer) (d : Decision) → check t a d .answer ≡ choose t (d .answer) a
+check-answer : (t : Bool) (a : Answer) (d : Decision) → check t a d .answer ≡ choose t (d .answer) a
 unfolding check choose
-check-answer s true a d = refl
-check-answer s false a d = refl
+check-answer true a d = refl
+check-answer false a d = refl
 
 check-buffer : (s : State) (t : Bool) (a : Answer) (d : Decision) (m b : List ℕ) → bufferOf s (check t a d) m b ≡ choose t (bufferOf s d m b) b
 unfolding check choose bufferAfter
@@ -60,11 +60,11 @@ check-scratch s true a d m b = refl
 check-scratch s false a d m b = refl
 
 -- for search: a chain of checks up to the one that refuses
-pub go : (s : State) (t : Bool) (a : Answer) (d x : Decision) → t ≡ true → d ≡ x → check t a d ≡ x
-go s t a d x e p = check-yes a d e ∙ p
+pub go : (t : Bool) (a : Answer) (d x : Decision) → t ≡ true → d ≡ x → check t a d ≡ x
+go t a d x e p = check-yes a d e ∙ p
 
-pub stop : (s : State) (t : Bool) (a : Answer) (d : Decision) → t ≡ false → check t a d ≡ refuse a
-stop s t a d e = check-no a d e
+pub stop : (t : Bool) (a : Answer) (d : Decision) → t ≡ false → check t a d ≡ refuse a
+stop t a d e = check-no a d e
 
 pub ruleset stops = (go, stop)
 
@@ -120,7 +120,7 @@ module _ (s : State) (c : Caller) (r a n : ℕ) (x : Translation) (h : Aimed s (
 
     pub fetch-says : (v : Answer) → v ≡ fetchAnswer (space s u) a n → v ≡ judge s (callOf c (Fetch r a)) n .answer
     unfolding fetchAnswer
-    fetch-says v p = p ∙ sym (ap (λ d. d .answer) fetch-on ∙ check-answer s (inside (space s u) a n) Addressing (accept 0 Keep (fetch u a)))
+    fetch-says v p = p ∙ sym (ap (λ d. d .answer) fetch-on ∙ check-answer (inside (space s u) a n) Addressing (accept 0 Keep (fetch u a)))
 
     pub store-says : (v : Answer) → v ≡ storeAnswer (space s u) q a n → v ≡ judge s (callOf c (Store r a)) n .answer
     unfolding storeAnswer
@@ -128,8 +128,8 @@ module _ (s : State) (c : Caller) (r a n : ℕ) (x : Translation) (h : Aimed s (
         p
         ∙ sym
         (ap (λ d. d .answer) store-on
-        ∙ check-answer s (inside (space s u) a n) Addressing (check (writes q) Protection (accept 0 Keep (store u a)))
-        ∙ ap (λ z. choose (inside (space s u) a n) z Addressing) (check-answer s (writes q) Protection (accept 0 Keep (store u a))))
+        ∙ check-answer (inside (space s u) a n) Addressing (check (writes q) Protection (accept 0 Keep (store u a)))
+        ∙ ap (λ z. choose (inside (space s u) a n) z Addressing) (check-answer (writes q) Protection (accept 0 Keep (store u a))))
 
 -- the bytes of the space in slot u from an address on are one run of scratch
 module _ (s : State) (u a : ℕ) (m b : List ℕ) (run : RunIn (space s u) m) (t : inside (space s u) a (length b) ≡ true) where

@@ -4,7 +4,6 @@ ghost use Prim.Native.Nat.{_*_};
 ghost use mathlib.Core.Bool.{true};
 ghost use mathlib.Core.Path.{_≡_};
 ghost use lib.ListN.{length};
-ghost use Rattle.model.specs.Arguments.{goodLength};
 ghost use Rattle.model.specs.Calls.{judge};
 ghost use Rattle.model.specs.Leaves.{scratchJudged, bufferJudged};
 ghost use Rattle.model.specs.Replies.{callOf};
@@ -15,16 +14,6 @@ use model::Caller;
 use model::Kind;
 use model::State;
 use model::Translation;
-
-// A fetch or store moves 1 to 256 bytes.
-fn good_length(n: usize) -> bool
-    ensures { λ r. ⌜ r ≡ goodLength n ⌝ }
-{
-    if n == 0 {
-        return false;
-    }
-    n <= 256
-}
 
 pub fn fetch(
     s: State,
@@ -49,7 +38,7 @@ pub fn fetch(
             place: 2,
         };
     }
-    if !good_length(buffer.len()) {
+    if !limits::good_length(buffer.len()) {
         return Answer::Limit {
             kind: Kind::Length,
             place: 4,
@@ -92,7 +81,7 @@ pub fn store(
             place: 2,
         };
     }
-    if !good_length(bytes.len()) {
+    if !limits::good_length(bytes.len()) {
         return Answer::Limit {
             kind: Kind::Length,
             place: 4,

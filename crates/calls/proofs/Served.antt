@@ -3,7 +3,6 @@ use Prim.Native.Nat.{ℕ}
 use mathlib.Core.List.{List}
 use mathlib.Core.Path.{_≡_, ap, ap₂, sym, _∙_}
 use lib.ListN.{length}
-use Rattle.model.specs.Decision.{after}
 use Rattle.model.specs.declared.Answer.{Answer}
 use Rattle.model.specs.declared.Call.{Call}
 use Rattle.model.specs.declared.Caller.{Caller}
@@ -13,6 +12,7 @@ use Rattle.model.specs.declared.Reply.{Reply}
 use Rattle.model.specs.declared.Right.{Right}
 use Rattle.model.specs.declared.State.{State}
 use Rattle.model.specs.Calls.{judge}
+use Rattle.model.specs.Decision.{after}
 use Rattle.model.specs.Leaves.{scratchJudged, bufferJudged}
 use Rattle.model.specs.Replies.{replied, reply, callOf}
 use Rattle.model.specs.Step.{scratchAfter}

@@ -10,7 +10,7 @@ use Rattle.model.specs.declared.Operation.the-variants.{Enrol, Create, Destroy,
 use Rattle.model.specs.declared.State.{State}
 use Rattle.model.specs.Arguments.{arguments}
 use Rattle.model.specs.Calls.{judge, perform}
-use Rattle.model.specs.Decision.{after, Decision, Effect, none, clear, fetch, store}
+use Rattle.model.specs.Decision.{Decision, after, Effect, none, clear, fetch, store}
 use Rattle.model.specs.Granted.{Performed}
 use Rattle.model.specs.Leaves.{scratchJudged, bufferJudged}
 use Rattle.model.specs.Replies.{callOf}

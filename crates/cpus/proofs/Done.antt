@@ -14,8 +14,8 @@ use Rattle.model.specs.declared.State.{State}
 use Rattle.model.specs.Arguments.{arguments, checkAll}
 use Rattle.model.specs.Calls.{judge, goodCaller, enrols, perform, load, mode}
 use Rattle.model.specs.Leaves.{callerPlace}
-use Rattle.model.specs.Searches.{enrolled}
 use Rattle.model.specs.Replies.{reply, replied, callOf}
+use Rattle.model.specs.Searches.{enrolled}
 use Rattle.model.specs.Tables.{noGuest, cpuAt, cpuPlace, withCpus}
 use Rattle.model.proofs.Rules.{go-on, refuse-at, place-yes, place-is}
 

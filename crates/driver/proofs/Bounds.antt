@@ -1,6 +1,6 @@
 -- What a caller learns of a feed and of a finish: what was taken lies in the input, what was written lies in `out`, and where
 -- there is room for a reply something was taken. Assumes nothing.
-use Prim.Native.Nat.{ℕ, zero, suc, _+_, _≤_, _<_}
+use Prim.Native.Nat.{ℕ, zero, suc, _≤_, _<_}
 use mathlib.Core.Bool.{Bool}
 use mathlib.Core.List.{List}
 use native.Mathlib.Omega.{arith}

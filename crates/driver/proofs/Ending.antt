@@ -8,8 +8,8 @@ use lib.Dec.{eqb}
 use lib.ListN.{length, take}
 use borrow.Author.Tests.{eq-eqb, ne-eqb}
 use Rattle.lists.proofs.Choice.{yes!, no! }
-use Rattle.replies.specs.Wrote.{Wrote}
-use Rattle.replies.proofs.Writing.{wrote-none}
+use Rattle.digits.specs.Wrote.{Wrote}
+use Rattle.digits.proofs.Writing.{wrote-none}
 use Rattle.driver.specs.declared.Session.{Session}
 use Rattle.driver.specs.Feed.{Feed, ended, replyTo, lastWords}
 use Rattle.driver.specs.Fed.{feedOf, closing, FinishedTo, finished, full}

@@ -13,8 +13,8 @@ use Rattle.lists.proofs.Choice.{yes!, no! }
 use Rattle.lists.proofs.Parts.{take-kept}
 use Rattle.lists.proofs.Places.{lowest-from-holds, lowest-from-least}
 use Rattle.model.specs.Session.{Session, lineTurn, lineText, nextLine}
-use Rattle.replies.specs.Wrote.{Wrote}
-use Rattle.replies.proofs.Writing.{wrote-none, wrote-more}
+use Rattle.digits.specs.Wrote.{Wrote}
+use Rattle.digits.proofs.Writing.{wrote-none, wrote-more}
 use Rattle.driver.specs.Feed.{Feed, ended, replyTo, holding, next, says, after, said, newlineFrom}
 use Rattle.driver.specs.Fed.{Going, FedTo}
 use Rattle.driver.proofs.Pieces.{after-append, said-append}

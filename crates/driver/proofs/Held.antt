@@ -1,22 +1,14 @@
--- What is held of a line: as many bytes as a session says, and after a part of it has come. Assumes nothing.
-use Prim.Native.Nat.{ℕ, min, _+_, _-_, _≤_}
-use mathlib.Core.List.{List, _++_, append-assoc}
-use mathlib.Core.Path.{_≡_, subst, sym, ap, _∙_}
+-- A session that holds as many bytes of a line as are held is the same. Assumes nothing.
+use Prim.Native.Nat.{ℕ, _-_}
+use mathlib.Core.List.{List}
+use mathlib.Core.Path.{_≡_, subst, ap}
 use native.Mathlib.Omega.{arith}
-use lib.ListN.{length, take, drop, length-take, length-append}
-use lib.Seq.{length-take-le, take-at, take-append-add}
-use Rattle.lists.specs.Bytes.{over}
-use Rattle.lists.proofs.Bytes.{over-lent}
+use lib.ListN.{length, take, length-take}
 use Rattle.lists.proofs.Parts.{take-least}
 use Rattle.driver.specs.declared.Session.{Session}
 use Rattle.driver.specs.Feed.{Feed}
 use Rattle.driver.specs.Fed.{feedOf, FedTo}
 
--- more than is held can't be said to be held
-pub held-least : (h : List ℕ) (have n : ℕ) → length h ≡ 601 → n ≡ min have 601 → n ≡ length (take have h)
-held-least h have n l e = omega (arith, length-take have h)
-
--- so a session that holds as many as are held is the same
 abbrev pub within : Session → ℕ → Session
 within s k = record { begun = s .begun; line = s .line; have = k; state = s .state }
 
@@ -28,19 +20,3 @@ kept-same s h m k e =
 pub kept-fed : (s : Session) (h m input out out₁ : List ℕ) (k used written : ℕ) (f : Feed) → k ≡ length (take (s .have) h)
     → FedTo (feedOf (within s k) h m) input out used written f out₁ → FedTo (feedOf s h m) input out used written f out₁
 kept-fed s h m input out out₁ k used written f e t = subst (λ (x : Feed). FedTo x input out used written f out₁) (kept-same s h m k e) t
-
--- as many bytes of the part p as there is room for are put behind the bytes held
-pub hold-part : (h p y : List ℕ) (have n : ℕ) → length h ≡ 601 → have ≤ 601 → n ≡ min (length p) (601 - have)
-    → y ≡ over (take (length h - have) (drop have h)) 0 (take (n - 0) (drop 0 p))
-    → take (have + n) (take have h ++ (y ++ drop (length h - have) (drop have h))) ≡ take 601 (take have h ++ p)
-unfolding over
-hold-part h p y have n l k e f =
-    let x = take (n - 0) p in
-    let z : n - 0 ≡ n = omega arith in
-    let front : length (take have h) ≡ have = length-take-le have h (omega arith) in
-    let long : length x ≡ n = ap (λ j. length (take j p)) z ∙ length-take-le n p (omega arith) in
-    let room : 601 ≡ length (take have h) + (601 - have) = omega arith in
-    ap (take (have + n)) (over-lent h x y have f ∙ sym (append-assoc (take have h) x _))
-    ∙ take-at (take have h ++ x) _ (have + n) (omega (arith, length-append (take have h) x))
-    ∙ ap (λ r. take have h ++ r) (ap (λ j. take j p) z ∙ take-least p (601 - have) n e)
-    ∙ sym (ap (λ j. take j (take have h ++ p)) room ∙ take-append-add (take have h) p (601 - have))

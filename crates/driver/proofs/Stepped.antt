@@ -13,11 +13,12 @@ use Rattle.model.specs.declared.Request.{Request}
 use Rattle.model.specs.Lines.{stores, lengthOf, readLine, dataOf}
 use Rattle.model.specs.Session.{Session, requestTurn, lineTurn}
 use Rattle.lines.proofs.Stored.{data-length, data-most, data-none}
-use Rattle.replies.specs.Wrote.{Wrote}
+use Rattle.digits.specs.Wrote.{Wrote}
 use Rattle.turns.specs.declared.Answered.{Answered}
 use Rattle.turns.specs.declared.Answered.the-variants.{To, NotYet}
 use Rattle.turns.specs.declared.Host.{Host}
-use Rattle.turns.specs.Taken.{sessionOf, usable, dataIn, Prepared, withAt, Taken, Waiting, AnsweredTo}
+use Rattle.ready.specs.Usable.{usable}
+use Rattle.turns.specs.Taken.{sessionOf, dataIn, Prepared, withAt, Taken, Waiting, AnsweredTo}
 use Rattle.turns.proofs.Filled.{prepared-long}
 use Rattle.driver.specs.declared.Session.{Session as Standing}
 use Rattle.driver.specs.declared.Step.{Step}

@@ -8,7 +8,8 @@ use lib.ListN.{length, take, drop, length-take}
 use Rattle.model.specs.declared.Request.{Request}
 use Rattle.model.specs.Session.{lineTurn, requestTurn}
 use Rattle.turns.specs.declared.Host.{Host}
-use Rattle.turns.specs.Taken.{sessionOf, usable, withAt, Taken}
+use Rattle.ready.specs.Usable.{usable}
+use Rattle.turns.specs.Taken.{sessionOf, withAt, Taken}
 use Rattle.driver.specs.declared.Step.{Step}
 use Rattle.driver.specs.declared.Step.the-variants.{To, Waits}
 use Rattle.driver.specs.Feed.{Feed, newlineFrom}

@@ -8,7 +8,7 @@ use lib.ListN.{length, take, drop}
 use lib.Seq.{take-at}
 use Rattle.lists.specs.Bytes.{over}
 use Rattle.model.specs.Session.{header, sessionText}
-use Rattle.replies.specs.Wrote.{Wrote}
+use Rattle.digits.specs.Wrote.{Wrote}
 use Rattle.driver.specs.Feed.{Feed, lastWords, spoken, joined}
 use Rattle.driver.specs.Fed.{feedOf, opened, FinishedTo, finished, Feeds, none, more}
 use Rattle.driver.proofs.Pieces.{any-cut}

@@ -7,7 +7,7 @@ use lib.Dec.{eqb}
 use lib.ListN.{length, take}
 use Rattle.lists.specs.Choice.{choose}
 use Rattle.model.specs.Fresh.{emptyTables}
-use Rattle.replies.specs.Wrote.{Wrote}
+use Rattle.digits.specs.Wrote.{Wrote}
 use Rattle.driver.specs.declared.Session.{Session}
 use Rattle.driver.specs.Feed.{Feed, ended, after, said, lastWords}
 

@@ -1,11 +1,10 @@
 // A session over input that comes in pieces. No function asks anything of its caller: soundness is tested once for a piece,
 // and then the inner calls are used for every line of it.
-ghost use Prim.Native.Nat.{min, _+_, _≤_};
-ghost use mathlib.Core.List.{_++_};
+ghost use Prim.Native.Nat.{_+_, _≤_};
 ghost use mathlib.Core.Path.{_≡_};
-ghost use lib.ListN.{length, take};
-ghost use Rattle.replies.specs.Wrote.{Wrote};
-ghost use Rattle.turns.specs.Taken.{usable};
+ghost use lib.ListN.{length};
+ghost use Rattle.digits.specs.Wrote.{Wrote};
+ghost use Rattle.ready.specs.Usable.{usable};
 ghost use Rattle.driver.specs.Feed.{ended, replyTo, newlineFrom};
 ghost use Rattle.driver.specs.Fed.{feedOf, opened, FedTo, FinishedTo};
 ghost use Rattle.driver.specs.Stepped.{SteppedTo};
@@ -53,34 +52,6 @@ fn line_end(input: &[u8], from: usize) -> usize
     ensures { λ r. ⌜ (r ≡ newlineFrom (now (input .entry)) from) × (from ≤ r) × (r ≤ length (now (input .entry))) ⌝ }
 {
     moves::find(input, from, 10)
-}
-
-fn least(a: usize, b: usize) -> usize
-    ensures { λ r. ⌜ r ≡ min a b ⌝ }
-{
-    if a < b {
-        return a;
-    }
-    b
-}
-
-// How many bytes are held: no more than there is room for, whatever a session says.
-fn kept(held: &[u8], have: usize) -> usize
-    requires { ⌜ length (now held) ≡ 601 ⌝ }
-    ensures { λ r. ⌜ (r ≡ length (take have (now (held .entry)))) × (r ≤ 601) ⌝ }
-{
-    least(have, 601)
-}
-
-// The bytes of a part go behind the bytes held, as many as there is room for.
-fn hold(held: &mut [u8], have: usize, part: &[u8]) -> usize
-    requires { ⌜ (length (now held) ≡ 601) × (have ≤ 601) ⌝ }
-    ensures { λ r. ⌜ (take r (now (held .exit)) ≡ take 601 (take have (now (held .entry)) ++ now (part .entry))) × (r ≤ 601) ⌝ }
-{
-    let room = 601 - have;
-    let n = least(part.len(), room);
-    moves::put(&mut held[have..], &part[0..n]);
-    have + n
 }
 
 fn stand(host: Host, line: u64, have: usize, used: usize) -> Fed
@@ -134,7 +105,7 @@ fn feed_lines(
     let state = session.state;
     let mut host = Host {
         begun: session.begun,
-        ready: turns::is_usable(state, scratch.len()),
+        ready: ready::is_usable(state, scratch.len()),
         at: 0,
         state: state,
     };
@@ -146,7 +117,7 @@ fn feed_lines(
             return stand(host, line, have, i);
         }
         let e = line_end(input, i);
-        let n = hold(held, have, &input[i..e]);
+        let n = held::hold(held, have, &input[i..e]);
         if e == input.len() {
             return stand(host, line, n, e);
         }
@@ -177,7 +148,7 @@ pub fn feed(
 ) -> Fed
     ensures { λ r. ⌜ FedTo (feedOf session (now (held .entry)) (now (scratch .entry))) (now (input .entry)) (now (out .entry)) (r .used) (r .written) (feedOf (r .session) (now (held .exit)) (now (scratch .exit))) (now (out .exit)) ⌝ }
 {
-    session.have = kept(held, session.have);
+    session.have = held::kept(held, session.have);
     feed_lines(session, held, scratch, input, out)
 }
 
@@ -189,7 +160,7 @@ fn last_line(session: Session, held: &[u8], scratch: &mut [u8], out: &mut [u8]) 
     let state = session.state;
     let host = Host {
         begun: session.begun,
-        ready: turns::is_usable(state, scratch.len()),
+        ready: ready::is_usable(state, scratch.len()),
         at: 0,
         state: state,
     };
@@ -220,7 +191,7 @@ pub fn finish(
             written: 0,
         };
     }
-    session.have = kept(held, session.have);
+    session.have = held::kept(held, session.have);
     if session.have == 0 {
         return Finished {
             done: true,

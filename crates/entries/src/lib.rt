@@ -1,12 +1,16 @@
 // One entry of a list, its token, and one permit: what they allow, and how they change.
 ghost use mathlib.Core.Path.{_≡_};
+ghost use lib.Dec.{eqb};
+ghost use Rattle.lists.specs.Choice.{either};
 ghost use Rattle.model.specs.Changes.{allows as allowed, raised, released};
 ghost use Rattle.model.specs.Searches.{isUnused};
 ghost use Rattle.model.specs.Tokens.{malformed};
 ghost use Rattle.entries.specs.Assigned.{assignedTo};
 use model::Entry;
 use model::Grant;
+use model::Permit;
 use model::Right;
+use model::Space;
 use model::Standing;
 
 pub fn is_unused(e: Entry) -> bool
@@ -76,6 +80,18 @@ pub fn allows(g: Grant, r: Right) -> bool
         },
         Grant::Writing => true,
     }
+}
+
+// Whether a guest owns a space, or has a permit for it that allows the right.
+pub fn is_entitled(x: Space, p: Permit, guest: u32, right: Right) -> bool
+    ensures { λ r. ⌜ r ≡ either (eqb (x .owner) guest) (allowed (p .grant) right) ⌝ }
+{
+    let owner = x.owner as u32;
+    if owner == guest {
+        return true;
+    }
+    let grant = p.grant;
+    allows(grant, right)
 }
 
 // The greater of what was permitted and the right that is given now.

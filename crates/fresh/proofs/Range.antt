@@ -5,7 +5,6 @@ use mathlib.Core.Path.{_≡_, sym, ap, _∙_}
 use Rattle.lists.proofs.Choice.{yes!, no! }
 use Rattle.model.specs.declared.Answer.the-variants.{Done, Limit}
 use Rattle.model.specs.declared.Kind.the-variants.{Frames}
-use Rattle.model.specs.declared.Reply.{Reply}
 use Rattle.model.specs.declared.State.{State}
 use Rattle.model.specs.Fresh.{emptyTables, framesInRange, fresh}
 use Rattle.model.specs.Replies.{reply}

@@ -2,8 +2,6 @@ pub mod Reaching
 pub mod Moved
 pub mod TwoRuns
 pub mod Isolation
-pub mod InstanceRun
-pub mod Instance
 pub mod Record
 pub mod RecordSet
 pub mod RecordMade
@@ -14,5 +12,4 @@ pub mod RecordTells
 pub mod Rising
 pub mod Grounded
 pub mod Records
-pub mod InstanceRecord
 pub mod Kept

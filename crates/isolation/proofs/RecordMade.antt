@@ -1,31 +1,30 @@
 -- ENROL and CREATE: a new space stands in a free slot with an identification of which the record knew nothing, and the memory
 -- follows it. They differ in the guest's home alone. Assumes nothing.
-use Prim.Native.Nat.{ℕ, _+_, _≤_, _<_}
+use Prim.Native.Nat.{ℕ, _≤_, _<_}
 use mathlib.Core.Bool.{true, false}
 use mathlib.Core.List.{List}
 use mathlib.Core.Path.{_≡_, refl, sym, _∙_}
 use native.Mathlib.Omega.{arith}
 use lib.Dec.{eqb}
-use lib.ListN.{set, length}
+use lib.ListN.{length}
 use borrow.Author.Tests.{eq-eqb, ne-eqb}
 use Rattle.lists.specs.Choice.{choose}
 use Rattle.lists.proofs.Choice.{true-false, not-so, yes!, no! }
 use Rattle.lists.proofs.Maps.{at-set}
+use Rattle.model.specs.declared.Change.{Change}
 use Rattle.model.specs.declared.Grant.the-variants.{Nothing}
 use Rattle.model.specs.declared.Guest.{Guest}
 use Rattle.model.specs.declared.Space.{Space}
 use Rattle.model.specs.declared.State.{State}
 use Rattle.model.specs.Answers.{value}
-use Rattle.model.specs.declared.Change.{Change}
-use Rattle.model.specs.declared.Change.the-variants.{AddGuest}
-use Rattle.model.specs.Applied.{applied}
-use Rattle.model.specs.Calls.{newSpace, newGuest}
+use Rattle.model.specs.Calls.{newSpace, newGuest, enrolling}
+use Rattle.model.specs.Changes.{withSpace, applied}
 use Rattle.model.specs.Decision.{Decision, after}
 use Rattle.model.specs.Granted.{Made, Created}
 use Rattle.model.specs.Names.{baseName}
 use Rattle.model.specs.Searches.{enrolled, freeSlot, freeRun, primarySlot}
 use Rattle.model.specs.Sound.{Live, IsGuest, Sound}
-use Rattle.model.specs.Tables.{noSpace, spaceAt, guestAt, grantAt, entryAt, guestPlace, withNext, withSpaces, withGuests}
+use Rattle.model.specs.Tables.{noSpace, spaceAt, guestAt, grantAt, entryAt, withGuests}
 use Rattle.model.specs.Tokens.{entryNumber}
 use Rattle.model.proofs.Entries.{nothing-allowed}
 use Rattle.model.proofs.NewSpace.{stands}
@@ -39,7 +38,7 @@ use Rattle.isolation.proofs.Record.{Memory, told, Remembers, gives-same
 module _ (s : State) (m : Memory) (ok : Sound s) (rem : Remembers s m) where
   -- the law of both: hs are the guests after the call, `home` says where each guest's home is then
   made-told : (hs : List Guest) (g name pages : ℕ) (c : Change) (d : Decision) (home : ℕ → ℕ)
-      → applied s c ≡ withNext (withSpaces (withGuests s hs) (set (s .spaces) (freeSlot (s .spaces)) (newSpace s g name pages))) (s .next + 1) → Made s pages c d
+      → applied s c ≡ withSpace (withGuests s hs) (freeSlot (s .spaces)) (newSpace s g name pages) → Made s pages c d
       → (name ≡ baseName → home g ≡ s .next)
       → ((u : ℕ) → Live (s .spaces) u → home (spaceAt (s .spaces) u .owner) ≡ m .home (spaceAt (s .spaces) u .owner))
       → Remembers (after s d) (record { owner = λ x. choose (eqb (s .next) x) g (m .owner x); home = home; grant = m .grant; token = m .token; mode = m .mode; load = m .load })
@@ -82,7 +81,7 @@ module _ (s : State) (m : Memory) (ok : Sound s) (rem : Remembers s m) where
 
   -- ENROL: no space had that owner
   pub enrol-told : (g pages allowance share list asf : ℕ) (d : Decision) → guestAt (s .guests) g .enrolled ≡ false
-      → Made s pages (AddGuest (freeSlot (s .spaces)) (newSpace s g baseName pages) (guestPlace g) (newGuest allowance share list asf)) d → Remembers (after s d) (told (Deed.enrolled g (value (d .answer))) m)
+      → Made s pages (enrolling s g pages allowance share list asf) d → Remembers (after s d) (told (Deed.enrolled g (value (d .answer))) m)
   unfolding newGuest newSpace value ownerBy homeBy grantBy tokenBy modeBy loadBy
   enrol-told g pages allowance share list asf d out done = rw (done .is) (rw (done .is) at
       (made-told _ g baseName pages _ d (λ h. choose (eqb g h) (s .next) (m .home h)) refl done (λ _. yes! _ _ (eq-eqb g g refl))

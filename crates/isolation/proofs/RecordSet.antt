@@ -63,7 +63,7 @@ module _ (s : State) (m : Memory) (ok : Sound s) (rem : Remembers s m) where
       one : (b : Caller) → IsGuest (b .guest) → cpuPlace b ≡ cpuPlace c → b ≡ c
       one b j q = ap (λ g. record { guest = g }) (same-guest (c .guest) (b .guest) i j q)
 
-  pub load-told : (c : Caller) (r v : ℕ) (d : Decision) → IsGuest (c .guest) → r ≤ 15 → Loaded s c r v d → Remembers (after s d) (told (loaded c r v) m)
+  pub load-told : (c : Caller) (r v : ℕ) (d : Decision) → IsGuest (c .guest) → r ≤ 15 → Loaded c r v d → Remembers (after s d) (told (loaded c r v) m)
   unfolding ownerBy homeBy grantBy tokenBy modeBy loadBy
   load-told c r v d i b done =
       let old = cpuAt (s .cpus) (cpuPlace c) .registers in

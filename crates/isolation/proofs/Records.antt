@@ -14,7 +14,7 @@ use Rattle.model.specs.declared.Right.the-variants.{Read, Write}
 use Rattle.model.specs.Step.{Issue}
 use Rattle.isolation.specs.Ground.{Never, Did, Owns, AtLeast, GivesUp, Withdraws, PermittedBefore, ByEntry, Ground}
 use Rattle.isolation.specs.History.{Event, Deed, nothing, enrolled, created, destroyed, permitted, isolated, added, removed, loaded, switched, reset, deedDone, deedOf, deed}
-use Rattle.isolation.specs.Instance.{issue, done, founding, permitting, session, writing, owning, fetch, store}
+use Rattle.isolation.specs.Records.{issue, done, founding, permitting, session, writing, owning, fetch, store}
 use Rattle.isolation.specs.Reaches.{Through}
 use Rattle.isolation.specs.Recall.{modeBy, modeIn, loadBy, loadIn, usedIn}
 use Rattle.isolation.specs.TwoRuns.{IsStore}

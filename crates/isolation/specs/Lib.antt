@@ -9,6 +9,6 @@ pub mod History
 pub mod Recall
 pub mod Ground
 pub mod Agrees
--- Both halves on concrete things
-pub mod Instance
+-- Records with and without a ground
+pub mod Records
 pub mod Kept

@@ -1,4 +1,3 @@
-pub mod Loops
 pub mod Rules
 pub mod Valid
 pub mod Passes

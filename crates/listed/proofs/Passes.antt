@@ -10,7 +10,7 @@ use Rattle.model.specs.declared.Guest.{Guest}
 use Rattle.model.specs.SoundTest.{untouchedTest}
 use Rattle.lists.proofs.Rules.{and-go, test-no}
 use Rattle.permitted.specs.Columns.{guestOn}
-use Rattle.listed.proofs.Loops.{Left, left-stop, left-false}
+use Rattle.lists.proofs.Loops.{Left, left-stop, left-false}
 use Rattle.listed.specs.Standings.{entryOn, standingWith, aboveTest}
 
 -- the entries at one index of all lists

@@ -7,3 +7,4 @@ pub mod Maps
 pub mod Bytes
 pub mod Parts
 pub mod Rules
+pub mod Loops

@@ -62,6 +62,11 @@ if-true t b e = implies-of t b (λ _. e)
 pub if-false : (t b : Bool) → t ≡ false → implies t b ≡ true
 if-false t b e = implies-of t b (λ y. true-false y e)
 
+pub if-go : {x : Bool} (t b : Bool) → t ≡ true → x ≡ b → x ≡ implies t b
+unfolding implies
+if-go true b e p = p
+if-go false b e p = true-false e refl
+
 pub if-stop : (t b : Bool) → t ≡ true → b ≡ false → implies t b ≡ false
 unfolding implies
 if-stop true b e f = f

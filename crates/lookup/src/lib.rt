@@ -3,9 +3,7 @@ ghost use Prim.Native.Nat.{_+_, _≤_, _<_};
 ghost use mathlib.Core.Path.{_≡_};
 ghost use Rattle.lists.specs.Choice.{choose};
 ghost use Rattle.model.specs.Leaves.{callerPlace};
-ghost use Rattle.model.specs.Searches.{isSpace, isOwned, isNamed, isData, slotOf, slotNamed, freeSlot, dataSpaces, freeEntry};
-ghost use Rattle.model.specs.Tables.{live};
-use model::BASE;
+ghost use Rattle.model.specs.Searches.{slotOf, slotNamed, freeSlot, dataSpaces, freeEntry};
 use model::Entry;
 use model::Guest;
 use model::Space;
@@ -27,50 +25,6 @@ pub fn caller_place(guests: [Guest; 8], g: u32) -> usize
     8
 }
 
-pub fn is_live(x: Space) -> bool
-    ensures { λ r. ⌜ r ≡ live x ⌝ }
-{
-    x.id != 0
-}
-
-fn is_space(x: Space, id: u32) -> bool
-    ensures { λ r. ⌜ r ≡ isSpace id x ⌝ }
-{
-    if !is_live(x) {
-        return false;
-    }
-    x.id == id
-}
-
-pub fn is_owned(x: Space, owner: u32) -> bool
-    ensures { λ r. ⌜ r ≡ isOwned owner x ⌝ }
-{
-    if x.id == 0 {
-        return false;
-    }
-    let o = x.owner as u32;
-    o == owner
-}
-
-fn is_named(x: Space, owner: u32, name: u64) -> bool
-    ensures { λ r. ⌜ r ≡ isNamed owner name x ⌝ }
-{
-    if !is_owned(x, owner) {
-        return false;
-    }
-    x.name == name
-}
-
-// A space of that owner that is not its primary space: that one's name is BASE.
-pub fn is_data(x: Space, owner: u32) -> bool
-    ensures { λ r. ⌜ r ≡ isData owner x ⌝ }
-{
-    if !is_owned(x, owner) {
-        return false;
-    }
-    x.name != BASE
-}
-
 // The slot of the live space with that identification.
 pub fn find_space(spaces: [Space; 32], id: u32) -> usize
     ensures { λ r. ⌜ r ≡ slotOf spaces id ⌝ }
@@ -78,7 +32,7 @@ pub fn find_space(spaces: [Space; 32], id: u32) -> usize
     let mut u = 0usize;
     while u < 32 {
         let x = spaces[u];
-        if is_space(x, id) {
+        if slots::is_space(x, id) {
             return u;
         }
         u += 1;
@@ -93,7 +47,7 @@ pub fn find_named(spaces: [Space; 32], owner: u32, name: u64) -> usize
     let mut u = 0usize;
     while u < 32 {
         let x = spaces[u];
-        if is_named(x, owner, name) {
+        if slots::is_named(x, owner, name) {
             return u;
         }
         u += 1;
@@ -133,7 +87,7 @@ pub fn data_spaces(spaces: [Space; 32], owner: u32) -> u32
     let mut n = 0u32;
     for u in 0..32usize {
         let x = spaces[u];
-        n = one_more(n, is_data(x, owner));
+        n = one_more(n, slots::is_data(x, owner));
     }
     n
 }

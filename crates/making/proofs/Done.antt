@@ -5,7 +5,7 @@ use mathlib.Core.Bool.{Bool, true, false, not}
 use mathlib.Core.List.{List, _++_}
 use mathlib.Core.Path.{_≡_, refl, sym, ap, ap₂, _∙_}
 use native.Mathlib.Omega.{arith}
-use lib.ListN.{getD, length, take, drop, set, replicate, length-take, length-drop}
+use lib.ListN.{getD, length, take, drop, replicate, length-take, length-drop}
 use lib.Seq.{getD-set-same}
 use borrow.Author.Tests.{lt-ltb, le-leb, lt-leb, eq-eqb, ne-eqb, not-false}
 use Rattle.lists.specs.Bytes.{over}
@@ -31,7 +31,7 @@ use Rattle.model.specs.Replies.{reply, replied, callOf}
 use Rattle.model.specs.Searches.{slotNamed, dataSpaces, freeSlot, freeRun, runIn}
 use Rattle.model.specs.SoundTest.{sound}
 use Rattle.model.specs.Step.{clearFrames, scratchAfter}
-use Rattle.model.specs.Tables.{noSpace, noGuest, spaceAt, guestAt, withGuests, withNext, withSpaces}
+use Rattle.model.specs.Tables.{noSpace, noGuest, spaceAt, guestAt, withGuests}
 use Rattle.model.proofs.Rules.{check-yes, check-no, place-yes, place-is}
 use Rattle.model.proofs.Runs.{lowest-run}
 use Rattle.model.proofs.Searches.{enrolled-guest}
@@ -57,9 +57,9 @@ module _ (s : State) (guests : List Guest) (owner name pages slot first : ℕ) (
   new = record { id = s .next; owner = owner; name = name; first = first; pages = pages }
 
   abbrev t : State
-  t = withNext (withSpaces (withGuests s guests) (set (s .spaces) slot new)) (s .next + 1)
+  t = withSpace (withGuests s guests) slot new
 
-  state-is : withNext (withSpaces (withGuests s guests) (set (s .spaces) (freeSlot (s .spaces)) (newSpace s owner name pages))) (s .next + 1) ≡ t
+  state-is : withSpace (withGuests s guests) (freeSlot (s .spaces)) (newSpace s owner name pages) ≡ t
   unfolding newSpace
   state-is = rw (slot-is, first-is) refl
 

@@ -20,13 +20,14 @@ use Rattle.model.specs.declared.Operation.the-variants.{Enrol}
 use Rattle.model.specs.declared.Reply.{Reply}
 use Rattle.model.specs.declared.State.{State}
 use Rattle.model.specs.Arguments.{arguments, checkAll}
-use Rattle.model.specs.Calls.{making, enrol, perform, enrols, mayEnrol, goodCaller, judge, newGuest}
+use Rattle.model.specs.Calls.{enrol, perform, enrols, mayEnrol, goodCaller, judge, newGuest}
 use Rattle.model.specs.Decision.{Decision, refuse, check}
 use Rattle.model.specs.Names.{baseName}
 use Rattle.model.specs.Replies.{reply, replied, callOf}
 use Rattle.model.specs.Step.{scratchAfter}
-use Rattle.model.specs.Tables.{guestAt, guestPlace, withGuests}
-use Rattle.making.specs.Enrolling.{newPlace, wrongOf, kindAt}
+use Rattle.model.specs.Tables.{guestAt, guestPlace}
+use Rattle.limits.specs.Settings.{wrongOf, kindAt}
+use Rattle.making.specs.Enrolling.{newPlace}
 use Rattle.making.specs.Made.{MadeBy, Makes}
 use Rattle.making.proofs.Done.{stops, goes}
 
@@ -69,16 +70,16 @@ refused s d a m e = rw e (record { reply = refl; scratch = refl })
 abbrev wrong : (a b c d e : Bool) → ℕ
 wrong a b c d e = choose a (choose b (choose c (choose d (choose e 0 6) 5) 4) 3) 2
 
-first-wrong : (s : State) (z : Decision) (a b c d e : Bool) → wrong a b c d e ≢ 0
+first-wrong : (z : Decision) (a b c d e : Bool) → wrong a b c d e ≢ 0
     → check a (Limit Pages 2) (check b (Limit Allowance 3) (check c (Limit Flag 4) (check d (Limit ListSize 5) (check e (Limit Flag 6) z))))
     ≡ refuse (Limit (kindAt (wrong a b c d e)) (wrong a b c d e))
 unfolding choose check kindAt
-first-wrong s z false b c d e n = refl
-first-wrong s z true false c d e n = refl
-first-wrong s z true true false d e n = refl
-first-wrong s z true true true false e n = refl
-first-wrong s z true true true true false n = refl
-first-wrong s z true true true true true n = absurd (n refl)
+first-wrong z false b c d e n = refl
+first-wrong z true false c d e n = refl
+first-wrong z true true false d e n = refl
+first-wrong z true true true false e n = refl
+first-wrong z true true true true false n = refl
+first-wrong z true true true true true n = absurd (n refl)
 
 all-right : (a b c d e : Bool) → wrong a b c d e ≡ 0 → (a ≡ true) × (b ≡ true) × (c ≡ true) × (d ≡ true) × (e ≡ true)
 unfolding choose
@@ -122,7 +123,7 @@ module _ (s : State) (c : Caller) (pages allowance share list asf : ℕ) (gs : L
   unfolding judge goodCaller enrols choose arguments checkAll wrongOf
   enrol-wrong w k e q l we wn ke =
       goes _ s _ _ _ m m (may-enrol e q l)
-      (rw (ke, we) (refused s _ (Limit (kindAt (wrongOf pages allowance share list asf)) (wrongOf pages allowance share list asf)) m (first-wrong s _ _ _ _ _ _ (λ z. wn (we ∙ z)))))
+      (rw (ke, we) (refused s _ (Limit (kindAt (wrongOf pages allowance share list asf)) (wrongOf pages allowance share list asf)) m (first-wrong _ _ _ _ _ _ (λ z. wn (we ∙ z)))))
 
   pub enrol-done : (w : ℕ) (r : Reply) (m' : List ℕ) → at ≡ newPlace gs (c .guest) → gs ≡ s .guests → at < 8 → w ≡ wrongOf pages allowance share list asf → w ≡ 0
       → Makes s (set gs at (record { enrolled = true; allowance = allowance; share = eqb share 1; list = list; asf = eqb asf 1 })) (c .guest) baseName pages r m m' → Made r m'

@@ -4,11 +4,10 @@ ghost use mathlib.Core.Bool.{true};
 ghost use mathlib.Core.Path.{_≡_};
 ghost use lib.ListN.{length};
 ghost use Rattle.making.specs.Made.{MadeBy, Makes};
-ghost use Rattle.making.specs.Enrolling.{newPlace, wrongOf, kindAt};
-ghost use Rattle.model.specs.Calls.{judge, making};
+ghost use Rattle.making.specs.Enrolling.{newPlace};
+ghost use Rattle.model.specs.Calls.{judge};
 ghost use Rattle.model.specs.Replies.{callOf};
 ghost use Rattle.model.specs.SoundTest.{sound};
-ghost use Rattle.model.specs.Tables.{withGuests};
 ghost use Rattle.model.specs.declared.Operation.the-variants.{Enrol, Create};
 use model::Answer;
 use model::BASE;
@@ -143,49 +142,6 @@ fn new_place(guests: [Guest; 8], g: u32) -> usize
     at
 }
 
-// The first argument of ENROL outside its limits: its place, 0 where there is none.
-fn wrong_argument(pages: u32, allowance: u32, share: u32, list: u32, asf: u32) -> u8
-    ensures { λ r. ⌜ r ≡ wrongOf pages allowance share list asf ⌝ }
-{
-    if pages == 0 {
-        return 2;
-    }
-    if 512 < pages {
-        return 2;
-    }
-    if 31 < allowance {
-        return 3;
-    }
-    if 1 < share {
-        return 4;
-    }
-    if list == 0 {
-        return 5;
-    }
-    if 30 < list {
-        return 5;
-    }
-    if 1 < asf {
-        return 6;
-    }
-    0
-}
-
-fn kind_at(place: u8) -> Kind
-    ensures { λ r. ⌜ r ≡ kindAt place ⌝ }
-{
-    if place == 2 {
-        return Kind::Pages;
-    }
-    if place == 3 {
-        return Kind::Allowance;
-    }
-    if place == 5 {
-        return Kind::ListSize;
-    }
-    Kind::Flag
-}
-
 pub fn enrol(
     s: State,
     scratch: &mut [u8],
@@ -207,11 +163,11 @@ pub fn enrol(
             state: s,
         };
     }
-    let wrong = wrong_argument(pages, allowance, share, list, asf);
+    let wrong = limits::wrong_setting(pages, allowance, share, list, asf);
     if wrong != 0 {
         return Reply {
             answer: Answer::Limit {
-                kind: kind_at(wrong),
+                kind: limits::kind_at(wrong),
                 place: wrong,
             },
             state: s,

@@ -30,8 +30,8 @@ use Rattle.model.specs.Arguments.{Argument, arguments, checkAll, goodPag
 use Rattle.model.specs.Calls.{making, enrol, create, owning, destroy, permit, isolate, entitled, query, add, remove, load, mode, writes, accessAt, access, target, fetching, storing, reset, perform, goodCaller, judge, ready, decide}
 use Rattle.model.specs.Decision.{Decision, Effect, check}
 use Rattle.model.specs.Frames.{sizeOf}
-use Rattle.model.specs.Names.{baseName}
 use Rattle.model.specs.NameText.{NameText}
+use Rattle.model.specs.Names.{baseName}
 use Rattle.model.specs.Searches.{enrolled, isUnused, slotOf, slotNamed, primarySlot, dataSpaces, freeSlot, freeRun, freeEntry}
 use Rattle.model.specs.Tables.{spaceAt, guestAt, cpuAt, cpuPlace, entryAt}
 use Rattle.model.specs.Tokens.{malformed, assigned, entryNumber, tokenUsed}
@@ -139,16 +139,15 @@ stop : (a : ℕ) (b : Bool) (cs : List Check) → b ≡ false → a ≡ firstFai
 unfolding firstFailed
 stop a b cs e = sym (no! (firstFailed cs) a e)
 
-module _ (s : State) where
-  first : (b : Bool) (a : Answer) (d : Decision) (cs : List Check) → number (d .answer) ≡ firstFailed cs → number (check b a d .answer) ≡ firstFailed (test (number a) b ∷ cs)
-  unfolding check
-  first true a d cs e = pass (number a) true cs refl e
-  first false a d cs e = stop (number a) false cs refl
+first : (b : Bool) (a : Answer) (d : Decision) (cs : List Check) → number (d .answer) ≡ firstFailed cs → number (check b a d .answer) ≡ firstFailed (test (number a) b ∷ cs)
+unfolding check
+first true a d cs e = pass (number a) true cs refl e
+first false a d cs e = stop (number a) false cs refl
 
-  first-limits : (args : List Argument) (d : Decision) (cs : List Check) → number (d .answer) ≡ firstFailed cs → number (checkAll args d .answer) ≡ firstFailed (limits args cs)
-  unfolding checkAll number
-  first-limits [] d cs e = e
-  first-limits (a ∷ more) d cs e = first (a .fits) _ _ (limits more cs) (first-limits more d cs e)
+first-limits : (args : List Argument) (d : Decision) (cs : List Check) → number (d .answer) ≡ firstFailed cs → number (checkAll args d .answer) ≡ firstFailed (limits args cs)
+unfolding checkAll number
+first-limits [] d cs e = e
+first-limits (a ∷ more) d cs e = first (a .fits) _ _ (limits more cs) (first-limits more d cs e)
 
 -- FETCH and STORE, by what the token is
 module _ (s : State) (g t a n : ℕ) (storing : Bool) (f : ℕ → Effect) where
@@ -157,7 +156,7 @@ module _ (s : State) (g t a n : ℕ) (storing : Bool) (f : ℕ → Effect) where
 
   first-inside : (u : ℕ) (r : Right) → number (accessAt s a n storing (f u) u r .answer) ≡ firstFailed (test 17 (leb (a + n) (sizeOf (s .spaces) u)) ∷ test 18 (implies storing (writes r)) ∷ [])
   unfolding accessAt number
-  first-inside u r = first s _ Addressing _ _ (first s _ Protection _ [] none-failed)
+  first-inside u r = first _ Addressing _ _ (first _ Protection _ [] none-failed)
 
   first-access : Fine (translate s g t)
   unfolding translate throughStanding access number malformed isUnused
@@ -184,17 +183,17 @@ module _ (s : State) (g t a n : ℕ) (storing : Bool) (f : ℕ → Effect) where
 module _ (s : State) (c : Caller) where
   first-performed : (k : Operation) (n : ℕ) → number (perform s c k n .answer) ≡ firstFailed (ownChecks s c k n)
   unfolding perform enrol create making owning destroy permit isolate query add remove load mode fetching storing reset target number
-  first-performed (Enrol pages allowance share list asf) n = first s _ SlotsUsed _ _ (first s _ NoIdentification _ _ (first s _ NoRun _ [] none-failed))
+  first-performed (Enrol pages allowance share list asf) n = first _ SlotsUsed _ _ (first _ NoIdentification _ _ (first _ NoRun _ [] none-failed))
   first-performed (Create name pages) n =
-      first s _ NameTaken _ _ (first s _ AllowanceUsed _ _ (first s _ SlotsUsed _ _ (first s _ NoIdentification _ _ (first s _ NoRun _ [] none-failed))))
-  first-performed (Destroy id) n = first s _ NoSpace _ _ (first s _ NotOwner _ _ (first s _ PrimarySpace _ [] none-failed))
-  first-performed (Permit id guest right) n = first s _ NoSpace _ _ (first s _ NotOwner _ _ (first s _ NoSharing _ [] none-failed))
-  first-performed (Isolate id) n = first s _ NoSpace _ _ (first s _ NotOwner _ [] none-failed)
-  first-performed (Query owner name) n = first s _ NoSpace _ [] none-failed
-  first-performed (Add id right) n = first s _ NoSpace _ _ (first s _ NotPermitted _ _ (first s _ ListFull _ [] none-failed))
-  first-performed (Remove token) n = first s _ AletSpecification _ _ (first s _ AlenTranslation _ [] none-failed)
+      first _ NameTaken _ _ (first _ AllowanceUsed _ _ (first _ SlotsUsed _ _ (first _ NoIdentification _ _ (first _ NoRun _ [] none-failed))))
+  first-performed (Destroy id) n = first _ NoSpace _ _ (first _ NotOwner _ _ (first _ PrimarySpace _ [] none-failed))
+  first-performed (Permit id guest right) n = first _ NoSpace _ _ (first _ NotOwner _ _ (first _ NoSharing _ [] none-failed))
+  first-performed (Isolate id) n = first _ NoSpace _ _ (first _ NotOwner _ [] none-failed)
+  first-performed (Query owner name) n = first _ NoSpace _ [] none-failed
+  first-performed (Add id right) n = first _ NoSpace _ _ (first _ NotPermitted _ _ (first _ ListFull _ [] none-failed))
+  first-performed (Remove token) n = first _ AletSpecification _ _ (first _ AlenTranslation _ [] none-failed)
   first-performed (Load register value) n = none-failed
-  first-performed (Mode m) n = first s _ SpecialOperation _ [] none-failed
+  first-performed (Mode m) n = first _ SpecialOperation _ [] none-failed
   first-performed (Fetch register address) n = first-access s (c .guest) _ address n false _
   first-performed (Store register address) n = first-access s (c .guest) _ address n true _
   first-performed Reset n = none-failed
@@ -202,8 +201,8 @@ module _ (s : State) (c : Caller) where
 pub answer-first : (s : State) (m : ℕ) (k : Call) (n : ℕ) → number (decide s m k n .answer) ≡ firstFailed (checks s m k n)
 unfolding decide judge number
 answer-first s m k n =
-    first s _ Unsound _ _ (first s _ BadCaller _ _
-    (first-limits s (arguments (s .guests) (k .caller) (k .operation) n) _ _ (first-performed s (k .caller) (k .operation) n)))
+    first _ Unsound _ _ (first _ BadCaller _ _
+    (first-limits (arguments (s .guests) (k .caller) (k .operation) n) _ _ (first-performed s (k .caller) (k .operation) n)))
 
 -- Answer 3: "an argument outside its limits", argument by argument in the paper's numbers.
 abbrev pub limitsOf : List Guest → Caller → Operation → (buffer : ℕ) → List (Type 0)

@@ -10,20 +10,19 @@ use lib.Seq.{getD-set-same, getD-set-other}
 use Rattle.lists.specs.Choice.{choose}
 use Rattle.model.specs.declared.Call.{Call}
 use Rattle.model.specs.declared.Caller.{Caller}
+use Rattle.model.specs.declared.Change.{Change}
 use Rattle.model.specs.declared.Operation.{Operation}
 use Rattle.model.specs.declared.Operation.the-variants.{Enrol, Create, Destroy, Permit, Isolate, Query, Add, Remove, Load, Mode, Fetch, Store, Reset}
 use Rattle.model.specs.declared.Space.{Space}
 use Rattle.model.specs.declared.State.{State}
-use Rattle.model.specs.declared.Change.{Change}
-use Rattle.model.specs.Applied.{applied, resetTables}
 use Rattle.model.specs.Calls.{newSpace, enrols, goodCaller, target, decide}
-use Rattle.model.specs.Changes.{withdrawn}
+use Rattle.model.specs.Changes.{withdrawn, resetTables, applied}
 use Rattle.model.specs.Decision.{Decision, after, Effect, none, clear, fetch, store, refuse, accept}
 use Rattle.model.specs.Frames.{layout, frameOf, framesOf}
 use Rattle.model.specs.Granted.{Made, Accessed, Performed, Granted}
 use Rattle.model.specs.Lawful.{SameSpace, ClearsSpace, Inside, EffectInside, Lawful}
 use Rattle.model.specs.Names.{baseName}
-use Rattle.model.specs.Searches.{enrolled, isOwned, isData, slotOf, freeSlot, freeRun}
+use Rattle.model.specs.Searches.{enrolled, isOwned, isData, slotOf, freeSlot}
 use Rattle.model.specs.Sound.{Live, Sound}
 use Rattle.model.specs.Tables.{noSpace, spaceAt}
 use Rattle.model.specs.Verdict.{row, Verdict, refused, granted}

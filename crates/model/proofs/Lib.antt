@@ -1,4 +1,3 @@
-pub mod Cases
 pub mod Names
 pub mod Searches
 pub mod Entries

@@ -12,14 +12,13 @@ use lib.ListN.{length, set, length-set}
 use lib.Seq.{getD-set-same, getD-set-other}
 use Rattle.lists.specs.Choice.{both, either, choose}
 use Rattle.lists.proofs.Choice.{true-false}
+use Rattle.model.specs.declared.Change.{Change}
 use Rattle.model.specs.declared.Cpu.{Cpu}
 use Rattle.model.specs.declared.Guest.{Guest}
 use Rattle.model.specs.declared.Space.{Space}
 use Rattle.model.specs.declared.State.{State}
-use Rattle.model.specs.declared.Change.{Change}
-use Rattle.model.specs.declared.Change.the-variants.{AddSpace, AddGuest}
-use Rattle.model.specs.Applied.{applied}
-use Rattle.model.specs.Calls.{newSpace, newGuest}
+use Rattle.model.specs.Calls.{newSpace, newGuest, enrolling}
+use Rattle.model.specs.Changes.{withSpace, applied}
 use Rattle.model.specs.Decision.{Decision, after}
 use Rattle.model.specs.Granted.{Made, Created}
 use Rattle.model.specs.Names.{blanks, nameRest, nameForm, nameBytes, goodName, baseName}
@@ -27,7 +26,7 @@ use Rattle.model.specs.Runs.{IsRun}
 use Rattle.model.specs.Searches.{enrolled, slotNamed, primarySlot, primaries, dataSpaces, freeSlot, freeRun}
 use Rattle.model.specs.Sizes.{maxAllowance, maxList}
 use Rattle.model.specs.Sound.{Live, IsGuest, GuestsOk, PermitsOk, EntriesOk, Sound}
-use Rattle.model.specs.Tables.{noGuest, spaceAt, guestAt, guestPlace, cpuAt, withNext, withSpaces, withGuests}
+use Rattle.model.specs.Tables.{noGuest, spaceAt, guestAt, guestPlace, cpuAt, withGuests}
 use Rattle.model.proofs.NewSpace.{Fits, stands, spaces-made, primary-made, data-made, others-made, no-primaries, no-data}
 use Rattle.model.proofs.Runs.{lowest-run, lowest-slot}
 use Rattle.model.proofs.Searches.{live-slot, enrolled-guest, enrolled-is, enrolled-of, named-none, primary-lt}
@@ -146,7 +145,7 @@ spacesAfter s g name pages = set (s .spaces) (freeSlot (s .spaces)) (newSpace s 
 
 -- the law of both calls: hs are the guests after the call
 sound-made : (s : State) (hs : List Guest) (g name pages : ℕ) (c : Change) (d : Decision) → Sound s
-    → applied s c ≡ withNext (withSpaces (withGuests s hs) (spacesAfter s g name pages)) (s .next + 1) → Made s pages c d
+    → applied s c ≡ withSpace (withGuests s hs) (freeSlot (s .spaces)) (newSpace s g name pages) → Made s pages c d
     → Keeps (s .guests) hs g → Settled (spacesAfter s g name pages) (guestAt hs g) (cpuAt (s .cpus) (guestPlace g)) g
     → 1 ≤ pages → goodName name ≡ true → ((u : ℕ) → Live (s .spaces) u → spaceAt (s .spaces) u .owner ≡ g → spaceAt (s .spaces) u .name ≡ name → ⊥)
     → Sound (after s d)
@@ -230,7 +229,7 @@ base-good = refl
 
 -- ENROL: the caller owned no space, since owners are enrolled; after the call it owns its primary alone.
 pub sound-enrol : (s : State) (g pages allowance share list asf : ℕ) (d : Decision) → Sound s → IsGuest g → guestAt (s .guests) g .enrolled ≡ false → 1 ≤ pages → allowance ≤ 31 → 1 ≤ list → list ≤ 30
-    → Made s pages (AddGuest (freeSlot (s .spaces)) (newSpace s g baseName pages) (guestPlace g) (newGuest allowance share list asf)) d → Sound (after s d)
+    → Made s pages (enrolling s g pages allowance share list asf) d → Sound (after s d)
 unfolding newGuest newSpace
 sound-enrol s g pages allowance share list asf d ok i out pos small low high m =
     sound-made s hs g baseName pages _ d ok refl m keeps caller pos base-good (λ u l o _. owns-none u l o)

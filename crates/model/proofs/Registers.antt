@@ -65,7 +65,7 @@ sixteen-registers : (s : State) (g : ℕ) → Sound s → enrolled (s .guests) g
 sixteen-registers s g ok on = let i = enrolled-guest (s .guests) g on in ok .guests .registers (guestPlace g) (omega arith)
 
 -- LOAD keeps the mode, so whatever is loaded the block stays good
-pub sound-load : (s : State) (c : Caller) (r v : ℕ) (d : Decision) → Sound s → enrolled (s .guests) (c .guest) ≡ true → r ≤ 15 → Loaded s c r v d → Sound (after s d)
+pub sound-load : (s : State) (c : Caller) (r v : ℕ) (d : Decision) → Sound s → enrolled (s .guests) (c .guest) ≡ true → r ≤ 15 → Loaded c r v d → Sound (after s d)
 sound-load s c r v d ok on b done =
     rw (done .is)
     (sound-cpu s (c .guest) _ ok on

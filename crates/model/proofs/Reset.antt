@@ -20,8 +20,7 @@ use Rattle.model.specs.declared.Right.the-variants.{Read}
 use Rattle.model.specs.declared.Standing.{Standing}
 use Rattle.model.specs.declared.Standing.the-variants.{Unused, Valid, Revoked}
 use Rattle.model.specs.declared.State.{State}
-use Rattle.model.specs.Applied.{resetTables}
-use Rattle.model.specs.Changes.{allows, releasedFrom, released, revokedFrom, revoked, listOwner, permitSlot, releasedAll, vacated, unpermitted, loses, revokedAll, withdrawn}
+use Rattle.model.specs.Changes.{allows, releasedFrom, released, revokedFrom, revoked, listOwner, permitSlot, releasedAll, vacated, unpermitted, loses, revokedAll, withdrawn, resetTables}
 use Rattle.model.specs.Decision.{Decision, after}
 use Rattle.model.specs.Granted.{Destroyed, Isolated, ResetDone}
 use Rattle.model.specs.Names.{baseName}
@@ -84,7 +83,7 @@ pub sound-isolate : (s : State) (g i : ℕ) (d : Decision) → Sound s → Isola
 sound-isolate s g i d ok c =
     rw (c .is) (sound-withdrawn s (λ v. false) (eqb (slotOf (s .spaces) i)) ok (λ v e. true-false e refl) (λ v e l. true-false e refl))
 
-pub sound-reset : (s : State) (g : ℕ) (d : Decision) → Sound s → ResetDone s g d → Sound (after s d)
+pub sound-reset : (s : State) (g : ℕ) (d : Decision) → Sound s → ResetDone g d → Sound (after s d)
 unfolding resetTables
 sound-reset s g d ok c =
     let gone : ℕ → Bool = λ u. isData g (spaceAt (s .spaces) u) in

@@ -13,7 +13,7 @@ use mathlib.Core.Path.{_≡_, refl, sym, ap, _∙_}
 use Rattle.model.specs.declared.Answer.{Answer}
 use Rattle.model.specs.declared.Reply.{Reply}
 use Rattle.model.specs.declared.State.{State}
-use Rattle.model.specs.Decision.{Decision, refuse, accept, check}
+use Rattle.model.specs.Decision.{Decision, refuse, check}
 use Rattle.model.specs.Replies.{reply, replied}
 
 pub check-yes : {b : Bool} (a : Answer) (d : Decision) → b ≡ true → check b a d ≡ d

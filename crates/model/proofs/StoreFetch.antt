@@ -9,8 +9,8 @@ use borrow.Author.Tests.{le-leb}
 use Rattle.lists.specs.Bytes.{over}
 use Rattle.lists.specs.Choice.{choose, implies}
 use Rattle.model.specs.declared.Caller.{Caller}
-use Rattle.model.specs.declared.Operation.the-variants.{Fetch, Store}
 use Rattle.model.specs.declared.Change.the-variants.{Keep}
+use Rattle.model.specs.declared.Operation.the-variants.{Fetch, Store}
 use Rattle.model.specs.declared.State.{State}
 use Rattle.model.specs.Answers.{number}
 use Rattle.model.specs.Arguments.{arguments, checkAll}

@@ -22,15 +22,15 @@ use Rattle.model.specs.declared.State.{State}
 use Rattle.model.specs.Arguments.{arguments}
 use Rattle.model.specs.Calls.{writes, target, enrols, goodCaller}
 use Rattle.model.specs.Decision.{Decision, after, Effect, store}
-use Rattle.model.specs.Granted.{Accessed, Performed, AllFit}
-use Rattle.model.specs.Searches.{enrolled, primarySlot}
 use Rattle.model.specs.Frames.{sizeOf, bytesOf}
+use Rattle.model.specs.Granted.{Accessed, Performed, AllFit}
 use Rattle.model.specs.Names.{baseName}
+use Rattle.model.specs.Searches.{enrolled, primarySlot}
 use Rattle.model.specs.Sound.{Live, IsGuest, Sound}
 use Rattle.model.specs.Step.{scratchAfter, bufferAfter}
 use Rattle.model.specs.Tables.{noCpu, guestAt, cpuAt, cpuPlace, withCpus}
-use Rattle.model.specs.Tokens.{entryNumber, tokenUsed}
 use Rattle.model.specs.Through.{ThroughPrimary, ThroughEntry}
+use Rattle.model.specs.Tokens.{entryNumber, tokenUsed}
 use Rattle.model.proofs.Effects.{May, by, Done, all, ok, guest}
 use Rattle.model.proofs.Reached.{reached, reached-live}
 use Rattle.model.proofs.Searches.{enrolled-guest, primary-lt, named-found}

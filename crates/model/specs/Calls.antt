@@ -8,7 +8,7 @@ use Rattle.model.specs.declared.Answer.the-variants.{Unsound, BadCaller,
 use Rattle.model.specs.declared.Call.{Call}
 use Rattle.model.specs.declared.Caller.{Caller}
 use Rattle.model.specs.declared.Change.{Change}
-use Rattle.model.specs.declared.Change.the-variants.{Keep, SetPermit, SetEntry, SetRegister, SetMode, AddSpace, AddGuest, DropSpace, CloseSpace, ClearGuest}
+use Rattle.model.specs.declared.Change.the-variants.{Keep, SetPermit, SetEntry, SetRegister, SetMode, AddSpace, AddGuest, DestroySpace, IsolateSpace, ResetGuest}
 use Rattle.model.specs.declared.Guest.{Guest}
 use Rattle.model.specs.declared.Operation.{Operation}
 use Rattle.model.specs.declared.Operation.the-variants.{Enrol, Create, Destroy, Permit, Isolate, Query, Add, Remove, Load, Mode, Fetch, Store, Reset}
@@ -19,10 +19,9 @@ use Rattle.model.specs.declared.Standing.the-variants.{Valid}
 use Rattle.model.specs.declared.State.{State}
 use Rattle.model.specs.declared.Translation.{Translation}
 use Rattle.model.specs.declared.Translation.the-variants.{Reached, Refused}
-use Rattle.model.specs.Applied.{applied}
 use Rattle.model.specs.Arguments.{arguments, checkAll}
-use Rattle.model.specs.Changes.{allows, raised, released}
-use Rattle.model.specs.Decision.{Decision, Effect, none, clear, fetch, store, refuse, accept, check}
+use Rattle.model.specs.Changes.{allows, raised, released, applied}
+use Rattle.model.specs.Decision.{Decision, Effect, none, clear, fetch, store, refuse, accept, done, check}
 use Rattle.model.specs.Frames.{framesOf, sizeOf}
 use Rattle.model.specs.Names.{baseName}
 use Rattle.model.specs.Searches.{enrolled, slotOf, slotNamed, dataSpaces, freeSlot, freeRun, freeEntry}
@@ -33,7 +32,7 @@ use Rattle.model.specs.Tokens.{token, entryNumber, malformed, assigned, 
 use Rattle.model.specs.Translation.{translate}
 
 -- ENROL and CREATE "take the lowest unused space slot and the lowest run of free frames, and fill it with zeros".
--- Both end in the checks 9, 11, 10.
+-- Both end in the checks 9, 11, 10; `c` is the change that adds the space.
 unfoldable pub newSpace : State → (guest name pages : ℕ) → Space
 newSpace s g name pages = record { id = s .next; owner = g; name = name; first = freeRun s pages; pages = pages }
 
@@ -49,16 +48,22 @@ making s pages c =
 unfoldable pub newGuest : (allowance share list asf : ℕ) → Guest
 newGuest allowance share list asf = record { enrolled = true; allowance = allowance; share = eqb share 1; list = list; asf = eqb asf 1 }
 
+abbrev pub enrolling : State → (guest pages allowance share list asf : ℕ) → Change
+enrolling s g pages allowance share list asf =
+    AddGuest (freeSlot (s .spaces)) (newSpace s g baseName pages) (guestPlace g) (newGuest allowance share list asf)
+
 unfoldable pub enrol : State → (guest pages allowance share list asf : ℕ) → Decision
-enrol s g pages allowance share list asf =
-    making s pages (AddGuest (freeSlot (s .spaces)) (newSpace s g baseName pages) (guestPlace g) (newGuest allowance share list asf))
+enrol s g pages allowance share list asf = making s pages (enrolling s g pages allowance share list asf)
 
 -- "CREATE name, pages 1-512: 3, 4, 8, 9, 11, 10. Value: identification. The primary doesn't count in the allowance."
+abbrev pub creating : State → (guest name pages : ℕ) → Change
+creating s g name pages = AddSpace (freeSlot (s .spaces)) (newSpace s g name pages)
+
 unfoldable pub create : State → (guest name pages : ℕ) → Decision
 create s g name pages =
     check (leb slotCount (slotNamed (s .spaces) g name)) NameTaken
     (check (not (eqb (dataSpaces (s .spaces) g) (guestAt (s .guests) g .allowance))) AllowanceUsed
-    (making s pages (AddSpace (freeSlot (s .spaces)) (newSpace s g name pages))))
+    (making s pages (creating s g name pages)))
 
 -- the checks 5 and 6, for the space in slot u
 unfoldable pub owning : State → (guest slot : ℕ) → Decision → Decision
@@ -73,7 +78,7 @@ destroy s g i =
     let u = slotOf (s .spaces) i in
     owning s g u
     (check (not (eqb (spaceAt (s .spaces) u .name) baseName)) PrimarySpace
-    (accept 0 (DropSpace u) none))
+    (done (DestroySpace u)))
 
 -- "PERMIT space, guest h, read or write: 3 .., 5, 6, 7. The right becomes the greater of old and new; write includes read."
 unfoldable pub permit : State → (guest id other : ℕ) → Right → Decision
@@ -81,13 +86,13 @@ permit s g i h r =
     let u = slotOf (s .spaces) i in
     owning s g u
     (check (guestAt (s .guests) g .share) NoSharing
-    (accept 0 (SetPermit (permitPlace u h) (record { grant = raised (grantAt (s .permits) u h) r })) none))
+    (done (SetPermit (permitPlace u h) (record { grant = raised (grantAt (s .permits) u h) r }))))
 
 -- "ISOLATE space: 5, 6. All permits for it go; other guests' valid entries for it become revoked, the owner's stay."
 unfoldable pub isolate : State → (guest id : ℕ) → Decision
 isolate s g i =
     let u = slotOf (s .spaces) i in
-    owning s g u (accept 0 (CloseSpace u) none)
+    owning s g u (done (IsolateSpace u))
 
 -- whether guest g owns the space in slot u, or is permitted the right r to it
 unfoldable pub entitled : State → (guest slot : ℕ) → Right → Bool
@@ -116,17 +121,17 @@ unfoldable pub remove : State → (guest token : ℕ) → Decision
 remove s g t =
     check (not (either (eqb t 0) (malformed t))) AletSpecification
     (check (assigned (s .entries) g (guestAt (s .guests) g .list) t) AlenTranslation
-    (accept 0 (SetEntry (entryPlace g (entryNumber t)) (released (entryAt (s .entries) g (entryNumber t)))) none))
+    (done (SetEntry (entryPlace g (entryNumber t)) (released (entryAt (s .entries) g (entryNumber t))))))
 
 -- "LOAD register 0-15, any 32-bit value: 3."
 unfoldable pub load : Caller → (register value : ℕ) → Decision
-load c r v = accept 0 (SetRegister (cpuPlace c) r v) none
+load c r v = done (SetRegister (cpuPlace c) r v)
 
 -- "MODE 0 primary, 1 access-register: 3, 19."
 unfoldable pub mode : State → Caller → (mode : ℕ) → Decision
 mode s c m =
     check (implies (eqb m 1) (guestAt (s .guests) (c .guest) .asf)) SpecialOperation
-    (accept 0 (SetMode (cpuPlace c) (eqb m 1)) none)
+    (done (SetMode (cpuPlace c) (eqb m 1)))
 
 -- "FETCH and STORE register, address: 3 (register or length), 14, 15, 16, 17, 18. Bytes of the fetch go to the buffer; a
 -- store replaces only the bytes named." The address and length are added as numbers without a width.
@@ -154,8 +159,10 @@ fetching s c r a n = access s a n false (λ u. fetch u a) (target s c r)
 unfoldable pub storing : State → Caller → (register address buffer : ℕ) → Decision
 storing s c r a n = access s a n true (λ u. store u a) (target s c r)
 
+-- "RESET: all the caller's entries become unused, its data spaces are destroyed, its primary is isolated." No check follows
+-- check 2.
 unfoldable pub reset : (guest : ℕ) → Decision
-reset g = accept 0 (ClearGuest g) none
+reset g = done (ResetGuest g)
 
 -- Any call, after the checks 1, 2 and 3.
 unfoldable pub perform : State → Caller → Operation → (buffer : ℕ) → Decision

@@ -1,10 +1,14 @@
--- What done calls change in the tables.
+-- What done calls change in the tables: one element, or all that belongs to spaces that are withdrawn; and `applied`, the
+-- tables after any change.
 use Prim.Native.Nat.{ℕ, _+_, _/_, _%_}
 use mathlib.Core.Bool.{Bool, true, false, not}
 use mathlib.Core.List.{List}
+use lib.ListN.{set}
 use lib.Dec.{eqb}
 use Rattle.lists.specs.Choice.{choose, both, either}
 use Rattle.lists.specs.Places.{mapPlaces}
+use Rattle.model.specs.declared.Change.{Change}
+use Rattle.model.specs.declared.Change.the-variants.{Keep, SetPermit, SetEntry, SetRegister, SetMode, AddSpace, AddGuest, DestroySpace, IsolateSpace, ResetGuest}
 use Rattle.model.specs.declared.Entry.{Entry}
 use Rattle.model.specs.declared.Grant.{Grant}
 use Rattle.model.specs.declared.Grant.the-variants.{Nothing, Reading, Writing}
@@ -15,7 +19,8 @@ use Rattle.model.specs.declared.Space.{Space}
 use Rattle.model.specs.declared.Standing.{Standing}
 use Rattle.model.specs.declared.Standing.the-variants.{Unused, Valid, Revoked}
 use Rattle.model.specs.declared.State.{State}
-use Rattle.model.specs.Tables.{noSpace, noPermit, spaceAt, withSpaces, withPermits, withEntries}
+use Rattle.model.specs.Searches.{isOwned, isData}
+use Rattle.model.specs.Tables.{noSpace, noPermit, spaceAt, cpuAt, withNext, withSpaces, withGuests, withCpus, withPermits, withEntries}
 
 -- Rights.
 -- "write includes read"
@@ -84,3 +89,27 @@ withdrawn gone closed s =
     withEntries
     (withPermits (withSpaces s (vacated gone (s .spaces))) (unpermitted closed (s .permits)))
     (revokedAll (loses (s .spaces) gone closed) (s .entries))
+
+-- "RESET: all the caller's entries become unused, its data spaces are destroyed, its primary is isolated. Primary bytes,
+-- registers and mode stay"
+unfoldable pub resetTables : State → (guest : ℕ) → State
+resetTables s g =
+    let t = withdrawn (λ u. isData g (spaceAt (s .spaces) u)) (λ u. isOwned g (spaceAt (s .spaces) u)) s in
+    withEntries t (releasedAll g (t .entries))
+
+-- Making a space: it stands in slot u, and its identification has been given.
+abbrev pub withSpace : State → (slot : ℕ) → Space → State
+withSpace s u x = withNext (withSpaces s (set (s .spaces) u x)) (s .next + 1)
+
+-- The tables after a change. The places are those of CPUs, permits, entries and guests in their tables.
+abbrev pub applied : State → Change → State
+applied s Keep = s
+applied s (SetPermit k p) = withPermits s (set (s .permits) k p)
+applied s (SetEntry k e) = withEntries s (set (s .entries) k e)
+applied s (SetRegister k r v) = withCpus s (set (s .cpus) k (record { registers = set (cpuAt (s .cpus) k .registers) r v; mode = cpuAt (s .cpus) k .mode }))
+applied s (SetMode k m) = withCpus s (set (s .cpus) k (record { registers = cpuAt (s .cpus) k .registers; mode = m }))
+applied s (AddSpace u x) = withSpace s u x
+applied s (AddGuest u x k y) = withSpace (withGuests s (set (s .guests) k y)) u x
+applied s (DestroySpace u) = withdrawn (eqb u) (eqb u) s
+applied s (IsolateSpace u) = withdrawn (λ v. false) (eqb u) s
+applied s (ResetGuest g) = resetTables s g

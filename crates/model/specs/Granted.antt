@@ -9,7 +9,7 @@ use lib.Dec.{eqb}
 use Rattle.model.specs.declared.Call.{Call}
 use Rattle.model.specs.declared.Caller.{Caller}
 use Rattle.model.specs.declared.Change.{Change}
-use Rattle.model.specs.declared.Change.the-variants.{Keep, SetPermit, SetEntry, SetRegister, SetMode, AddSpace, AddGuest, DropSpace, CloseSpace, ClearGuest}
+use Rattle.model.specs.declared.Change.the-variants.{Keep, SetPermit, SetEntry, SetRegister, SetMode, DestroySpace, IsolateSpace, ResetGuest}
 use Rattle.model.specs.declared.Operation.{Operation}
 use Rattle.model.specs.declared.Operation.the-variants.{Enrol, Create, Destroy, Permit, Isolate, Query, Add, Remove, Load, Mode, Fetch, Store, Reset}
 use Rattle.model.specs.declared.Right.{Right}
@@ -17,16 +17,15 @@ use Rattle.model.specs.declared.Right.the-variants.{Read}
 use Rattle.model.specs.declared.Standing.the-variants.{Valid}
 use Rattle.model.specs.declared.State.{State}
 use Rattle.model.specs.declared.Translation.the-variants.{Reached}
-use Rattle.model.specs.Applied.{applied}
 use Rattle.model.specs.Arguments.{Argument, arguments}
-use Rattle.model.specs.Calls.{newSpace, newGuest, entitled, writes, target, goodCaller, ready}
-use Rattle.model.specs.Changes.{raised, released}
-use Rattle.model.specs.Decision.{Decision, Effect, none, clear, fetch, store, accept}
+use Rattle.model.specs.Calls.{enrolling, creating, entitled, writes, target, goodCaller, ready}
+use Rattle.model.specs.Changes.{raised, released, applied}
+use Rattle.model.specs.Decision.{Decision, Effect, none, clear, fetch, store, accept, done}
 use Rattle.model.specs.Frames.{framesOf, sizeOf}
 use Rattle.model.specs.Names.{baseName}
 use Rattle.model.specs.Searches.{slotOf, slotNamed, dataSpaces, freeSlot, freeRun, freeEntry}
 use Rattle.model.specs.Sizes.{slotCount, spentIdentification}
-use Rattle.model.specs.Tables.{spaceAt, guestAt, guestPlace, cpuPlace, grantAt, permitPlace, entryAt, entryPlace}
+use Rattle.model.specs.Tables.{spaceAt, guestAt, cpuPlace, grantAt, permitPlace, entryAt, entryPlace}
 use Rattle.model.specs.Tokens.{token, entryNumber, malformed, assigned}
 
 -- a space was made
@@ -39,7 +38,7 @@ pub record Made (s : State) (pages : ℕ) (c : Change) (d : Decision) : Type 0 w
 pub record Created (s : State) (g name pages : ℕ) (d : Decision) : Type 0 where
   pub new : slotCount ≤ slotNamed (s .spaces) g name
   pub room : dataSpaces (s .spaces) g ≢ guestAt (s .guests) g .allowance
-  pub made : Made s pages (AddSpace (freeSlot (s .spaces)) (newSpace s g name pages)) d
+  pub made : Made s pages (creating s g name pages) d
 
 -- the space i is live in slot u and guest g owns it
 pub record Owning (s : State) (g u : ℕ) : Type 0 where
@@ -49,16 +48,16 @@ pub record Owning (s : State) (g u : ℕ) : Type 0 where
 pub record Destroyed (s : State) (g i : ℕ) (d : Decision) : Type 0 where
   pub owning : Owning s g (slotOf (s .spaces) i)
   pub not-primary : spaceAt (s .spaces) (slotOf (s .spaces) i) .name ≢ baseName
-  pub is : d ≡ accept 0 (DropSpace (slotOf (s .spaces) i)) none
+  pub is : d ≡ done (DestroySpace (slotOf (s .spaces) i))
 
 pub record Permitted (s : State) (g i h : ℕ) (r : Right) (d : Decision) : Type 0 where
   pub owning : Owning s g (slotOf (s .spaces) i)
   pub sharing : guestAt (s .guests) g .share ≡ true
-  pub is : d ≡ accept 0 (SetPermit (permitPlace (slotOf (s .spaces) i) h) (record { grant = raised (grantAt (s .permits) (slotOf (s .spaces) i) h) r })) none
+  pub is : d ≡ done (SetPermit (permitPlace (slotOf (s .spaces) i) h) (record { grant = raised (grantAt (s .permits) (slotOf (s .spaces) i) h) r }))
 
 pub record Isolated (s : State) (g i : ℕ) (d : Decision) : Type 0 where
   pub owning : Owning s g (slotOf (s .spaces) i)
-  pub is : d ≡ accept 0 (CloseSpace (slotOf (s .spaces) i)) none
+  pub is : d ≡ done (IsolateSpace (slotOf (s .spaces) i))
 
 pub record Queried (s : State) (g owner name : ℕ) (d : Decision) : Type 0 where
   pub slot : slotNamed (s .spaces) owner name < slotCount
@@ -79,14 +78,14 @@ pub record Removed (s : State) (g t : ℕ) (d : Decision) : Type 0 where
   pub not-zero : t ≢ 0
   pub formed : malformed t ≡ false
   pub assigned : assigned (s .entries) g (guestAt (s .guests) g .list) t ≡ true
-  pub is : d ≡ accept 0 (SetEntry (entryPlace g (entryNumber t)) (released (entryAt (s .entries) g (entryNumber t)))) none
+  pub is : d ≡ done (SetEntry (entryPlace g (entryNumber t)) (released (entryAt (s .entries) g (entryNumber t))))
 
-pub record Loaded (s : State) (c : Caller) (r v : ℕ) (d : Decision) : Type 0 where
-  pub is : d ≡ accept 0 (SetRegister (cpuPlace c) r v) none
+pub record Loaded (c : Caller) (r v : ℕ) (d : Decision) : Type 0 where
+  pub is : d ≡ done (SetRegister (cpuPlace c) r v)
 
 pub record ModeSet (s : State) (c : Caller) (m : ℕ) (d : Decision) : Type 0 where
   pub asf : m ≡ 1 → guestAt (s .guests) (c .guest) .asf ≡ true
-  pub is : d ≡ accept 0 (SetMode (cpuPlace c) (eqb m 1)) none
+  pub is : d ≡ done (SetMode (cpuPlace c) (eqb m 1))
 
 -- a fetch or store: the token used was translated to the space in `slot` with `right`
 pub record Accessed (s : State) (c : Caller) (r a n : ℕ) (storing : Bool) (f : ℕ → Effect) (d : Decision) : Type 0 where
@@ -97,11 +96,11 @@ pub record Accessed (s : State) (c : Caller) (r a n : ℕ) (storing : Bool) (f :
   pub writable : storing ≡ true → writes right ≡ true
   pub is : d ≡ accept 0 Keep (f slot)
 
-pub record ResetDone (s : State) (g : ℕ) (d : Decision) : Type 0 where
-  pub is : d ≡ accept 0 (ClearGuest g) none
+pub record ResetDone (g : ℕ) (d : Decision) : Type 0 where
+  pub is : d ≡ done (ResetGuest g)
 
 unfoldable pub Performed : State → Caller → Operation → (buffer : ℕ) → Decision → Type 0
-Performed s c (Enrol pages allowance share list asf) n d = Made s pages (AddGuest (freeSlot (s .spaces)) (newSpace s (c .guest) baseName pages) (guestPlace (c .guest)) (newGuest allowance share list asf)) d
+Performed s c (Enrol pages allowance share list asf) n d = Made s pages (enrolling s (c .guest) pages allowance share list asf) d
 Performed s c (Create name pages) n d = Created s (c .guest) name pages d
 Performed s c (Destroy id) n d = Destroyed s (c .guest) id d
 Performed s c (Permit id guest right) n d = Permitted s (c .guest) id guest right d
@@ -109,11 +108,11 @@ Performed s c (Isolate id) n d = Isolated s (c .guest) id d
 Performed s c (Query owner name) n d = Queried s (c .guest) owner name d
 Performed s c (Add id right) n d = Added s (c .guest) id right d
 Performed s c (Remove token) n d = Removed s (c .guest) token d
-Performed s c (Load register value) n d = Loaded s c register value d
+Performed s c (Load register value) n d = Loaded c register value d
 Performed s c (Mode m) n d = ModeSet s c m d
 Performed s c (Fetch register address) n d = Accessed s c register address n false (λ u. fetch u address) d
 Performed s c (Store register address) n d = Accessed s c register address n true (λ u. store u address) d
-Performed s c Reset n d = ResetDone s (c .guest) d
+Performed s c Reset n d = ResetDone (c .guest) d
 
 -- every argument is inside its limits
 unfoldable pub AllFit : List Argument → Type 0

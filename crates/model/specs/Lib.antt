@@ -13,7 +13,6 @@ pub mod Answers
 pub mod Searches
 pub mod Runs
 pub mod Changes
-pub mod Applied
 pub mod Decision
 pub mod Arguments
 pub mod Calls
@@ -33,8 +32,7 @@ pub mod Lawful
 pub mod Replies
 pub mod Leaves
 pub mod Promise
--- "Both sides of each edge"
-pub mod Cases
+-- "Both sides of each edge" stands in the crate `cases`, which computes with all of these
 -- "The session program"
 pub mod Lines
 pub mod Session

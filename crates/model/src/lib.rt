@@ -171,7 +171,8 @@ pub struct Call {
     pub operation: Operation,
 }
 
-// One change of the tables. A place is that of the element in its table.
+// What a done call changes in the tables: one element, or all that belongs to the spaces that it withdraws. specs/Changes.antt
+// gives the tables after each. A place, or a number of a CPU, is that of an element in its table.
 pub enum Change {
     Keep,
     SetPermit {
@@ -201,21 +202,15 @@ pub enum Change {
         place: u8,
         guest: Guest,
     },
-    DropSpace {
+    DestroySpace {
         slot: u8,
     },
-    CloseSpace {
+    IsolateSpace {
         slot: u8,
     },
-    ClearGuest {
+    ResetGuest {
         guest: u8,
     },
-}
-
-// What is decided of a call: the answer, and the change that it makes.
-pub struct Judgement {
-    pub answer: Answer,
-    pub change: Change,
 }
 
 // What a call returns: the answer and the tables after it.

@@ -16,8 +16,8 @@ use Rattle.model.specs.Answers.{number, value}
 use Rattle.model.specs.Session.{LineOutcome, decimal, hexText, dash, doneText, requestText, valueText, lineText}
 use Rattle.model.proofs.Operation as operation-cases
 use Rattle.model.proofs.Request as request-cases
-use Rattle.replies.specs.Wrote.{Wrote}
-use Rattle.replies.proofs.Writing.{wrote-more}
+use Rattle.digits.specs.Wrote.{Wrote}
+use Rattle.digits.proofs.Writing.{wrote-more}
 
 -- the calls by their places in the enum: those that give a number, ENROL, CREATE, QUERY and ADD; and those that give nothing,
 -- all others but FETCH

@@ -2,10 +2,7 @@
 ghost use Prim.Native.Nat.{_<_};
 ghost use mathlib.Core.Bool.{true};
 ghost use mathlib.Core.Path.{_≡_};
-ghost use lib.Dec.{eqb};
-ghost use Rattle.lists.specs.Choice.{either};
 ghost use Rattle.model.specs.Calls.{judge};
-ghost use Rattle.model.specs.Changes.{allows};
 ghost use Rattle.model.specs.Replies.{reply, replied, callOf};
 ghost use Rattle.model.specs.SoundTest.{sound};
 ghost use Rattle.model.specs.declared.Operation.the-variants.{Permit as PermitCall, Query, Add, Remove};
@@ -18,7 +15,6 @@ use model::Kind;
 use model::Permit;
 use model::Reply;
 use model::Right;
-use model::Space;
 use model::Standing;
 use model::State;
 
@@ -85,18 +81,6 @@ pub fn permit(mut s: State, caller: Caller, id: u32, guest: u32, right: Right) -
     }
 }
 
-// Whether a guest owns a space, or has a permit for it that allows the right.
-fn is_entitled(x: Space, p: Permit, guest: u32, right: Right) -> bool
-    ensures { λ r. ⌜ r ≡ either (eqb (x .owner) guest) (allows (p .grant) right) ⌝ }
-{
-    let owner = x.owner as u32;
-    if owner == guest {
-        return true;
-    }
-    let grant = p.grant;
-    entries::allows(grant, right)
-}
-
 // An absent space and one that the caller may not read are answered alike. No table changes.
 pub fn query(s: State, caller: Caller, owner: u32, name: u64) -> Answer
     requires { ⌜ sound s ≡ true ⌝ }
@@ -132,7 +116,7 @@ pub fn query(s: State, caller: Caller, owner: u32, name: u64) -> Answer
     }
     let x = ss[u];
     let p = s.permits[u * 8 + at];
-    if !is_entitled(x, p, caller.guest, Right::Read) {
+    if !entries::is_entitled(x, p, caller.guest, Right::Read) {
         return Answer::NoSpace;
     }
     Answer::Done { value: x.id }
@@ -177,7 +161,7 @@ pub fn add(s: State, caller: Caller, id: u32, right: Right) -> Reply
     }
     let x = ss[u];
     let p = s.permits[u * 8 + at];
-    if !is_entitled(x, p, caller.guest, right) {
+    if !entries::is_entitled(x, p, caller.guest, right) {
         return refuse(s, Answer::NotPermitted);
     }
     let g = gs[at];

@@ -15,10 +15,10 @@ use Rattle.model.specs.SoundTest.{guestTest, guestsTest}
 use Rattle.model.specs.Tables.{cpuAt}
 use Rattle.lists.proofs.Rules.{test-no, test-yes}
 use Rattle.permitted.specs.Columns.{Filled, guestOn}
-use Rattle.listed.proofs.Loops.{Left, left-every, left-go, left-stop, left-done}
+use Rattle.lists.proofs.Loops.{Left, left-every, left-go, left-stop, left-done}
 use Rattle.sound.proofs.Tags.{data-count, primary-count}
 use Rattle.sound.specs.Columns.{tagAt, slotsTest, tagCount, guestsWith}
-use Rattle.sound.specs.Elements.{guestWith}
+use Rattle.settings.specs.Guests.{guestWith}
 
 -- the loop over the guests: a table of counts, and the guests below k passed
 pub record Guests (ts ns : List ℕ) (gs : List Guest) (cs : List Cpu) (k : ℕ) : Type 0 where

@@ -1,4 +1,3 @@
-pub mod Rules
 pub mod Held
 pub mod Tags
 pub mod SlotLoop

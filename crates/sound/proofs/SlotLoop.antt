@@ -17,7 +17,7 @@ use Rattle.model.specs.Searches.{enrolled}
 use Rattle.model.specs.Tables.{spaceAt, live}
 use Rattle.permitted.specs.Columns.{guestOn}
 use Rattle.permitted.specs.Elements.{placeOf}
-use Rattle.listed.proofs.Loops.{Left, left-stop, left-done, left-true}
+use Rattle.lists.proofs.Loops.{Left, left-stop, left-done, left-true}
 use Rattle.permitted.proofs.Tables.{Filling, fill-end}
 use Rattle.sound.proofs.Tags.{tag-owners}
 use Rattle.sound.specs.Columns.{tagAt, slotsTest, Slots}

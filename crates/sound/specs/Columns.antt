@@ -12,7 +12,8 @@ use Rattle.model.specs.declared.Space.{Space}
 use Rattle.model.specs.SoundTest.{slotTest}
 use Rattle.model.specs.Tables.{spaceAt, cpuAt}
 use Rattle.permitted.specs.Columns.{Filled, guestOn, Owners}
-use Rattle.sound.specs.Elements.{tagOf, guestWith}
+use Rattle.settings.specs.Guests.{guestWith}
+use Rattle.sound.specs.Elements.{tagOf}
 
 abbrev pub tagAt : List Space → (slot : ℕ) → ℕ
 tagAt ss u = tagOf (spaceAt ss u)

@@ -1,13 +1,12 @@
--- The model's tests over single elements: a space with the guest at its owner's place, a guest with its CPU and its counts.
+-- The model's test of one slot, with the guest at its owner's place.
 use Prim.Native.Nat.{ℕ, _+_, _%_}
 use mathlib.Core.Bool.{Bool}
 use lib.Dec.{leb, ltb, eqb}
 use Rattle.lists.specs.Choice.{choose, both}
-use Rattle.model.specs.declared.Cpu.{Cpu}
 use Rattle.model.specs.declared.Guest.{Guest}
 use Rattle.model.specs.declared.Space.{Space}
 use Rattle.model.specs.Names.{goodName, baseName}
-use Rattle.model.specs.SoundTest.{deadTest, enrolledTest, absentTest}
+use Rattle.model.specs.SoundTest.{deadTest}
 use Rattle.model.specs.Tables.{live}
 
 -- x is owned by a guest, and o, the guest at its owner's place, is enrolled
@@ -27,6 +26,3 @@ slotWith f n o x = choose (live x) (liveWith f n o x) (deadTest x)
 -- the owner of a data space; the owner and 16 of a primary; 0 of a slot that is not live
 unfoldable pub tagOf : Space → ℕ
 tagOf x = choose (eqb (x .name) baseName) (x .owner % 16 + 16) (x .owner % 16)
-
-unfoldable pub guestWith : Guest → Cpu → (primaries dataSpaces : ℕ) → Bool
-guestWith x c p d = choose (x .enrolled) (enrolledTest x c p d) (absentTest x c)

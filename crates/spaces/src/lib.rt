@@ -3,7 +3,6 @@
 ghost use mathlib.Core.List.{[]};
 ghost use mathlib.Core.Path.{_≡_};
 ghost use Rattle.model.specs.Answers.{number as numberOf, value as valueOf};
-ghost use Rattle.model.specs.Calls.{ready};
 ghost use Rattle.model.specs.Fresh.{fresh as freshOf};
 ghost use Rattle.model.specs.Promise.{Promise, stepOf};
 ghost use Rattle.model.specs.Replies.{reply, callOf};
@@ -36,16 +35,6 @@ pub fn fresh(frames: u32) -> Reply
     fresh::fresh(frames)
 }
 
-// Check 1: the state is sound and scratch has F x 4,096 bytes.
-fn is_ready(s: State, room: usize) -> bool
-    ensures { λ r. ⌜ r ≡ ready s room ⌝ }
-{
-    if !sound::is_sound(s) {
-        return false;
-    }
-    room == (s.frames as usize) * 4096
-}
-
 fn unsound(s: State) -> Reply
     ensures { λ r. ⌜ r ≡ reply Unsound s ⌝ }
 {
@@ -67,7 +56,7 @@ pub fn enrol(
 ) -> Reply
     ensures { λ r. ⌜ Promise (stepOf s (now (scratch .entry)) (callOf caller (Enrol pages allowance share list asf)) []) (r .answer) (r .state) (now (scratch .exit)) [] ⌝ }
 {
-    if !is_ready(s, scratch.len()) {
+    if !ready::is_ready(s, scratch.len()) {
         return unsound(s);
     }
     making::enrol(s, scratch, caller, pages, allowance, share, list, asf)
@@ -76,7 +65,7 @@ pub fn enrol(
 pub fn create(s: State, scratch: &mut [u8], caller: Caller, name: u64, pages: u32) -> Reply
     ensures { λ r. ⌜ Promise (stepOf s (now (scratch .entry)) (callOf caller (Create name pages)) []) (r .answer) (r .state) (now (scratch .exit)) [] ⌝ }
 {
-    if !is_ready(s, scratch.len()) {
+    if !ready::is_ready(s, scratch.len()) {
         return unsound(s);
     }
     making::create(s, scratch, caller, name, pages)
@@ -85,7 +74,7 @@ pub fn create(s: State, scratch: &mut [u8], caller: Caller, name: u64, pages: u3
 pub fn destroy(s: State, scratch: &[u8], caller: Caller, id: u32) -> Reply
     ensures { λ r. ⌜ Promise (stepOf s (now (scratch .entry)) (callOf caller (Destroy id)) []) (r .answer) (r .state) (now (scratch .entry)) [] ⌝ }
 {
-    if !is_ready(s, scratch.len()) {
+    if !ready::is_ready(s, scratch.len()) {
         return unsound(s);
     }
     withdrawing::destroy(s, caller, id)
@@ -94,7 +83,7 @@ pub fn destroy(s: State, scratch: &[u8], caller: Caller, id: u32) -> Reply
 pub fn permit(s: State, scratch: &[u8], caller: Caller, id: u32, guest: u32, right: Right) -> Reply
     ensures { λ r. ⌜ Promise (stepOf s (now (scratch .entry)) (callOf caller (Permit id guest right)) []) (r .answer) (r .state) (now (scratch .entry)) [] ⌝ }
 {
-    if !is_ready(s, scratch.len()) {
+    if !ready::is_ready(s, scratch.len()) {
         return unsound(s);
     }
     rights::permit(s, caller, id, guest, right)
@@ -103,7 +92,7 @@ pub fn permit(s: State, scratch: &[u8], caller: Caller, id: u32, guest: u32, rig
 pub fn isolate(s: State, scratch: &[u8], caller: Caller, id: u32) -> Reply
     ensures { λ r. ⌜ Promise (stepOf s (now (scratch .entry)) (callOf caller (Isolate id)) []) (r .answer) (r .state) (now (scratch .entry)) [] ⌝ }
 {
-    if !is_ready(s, scratch.len()) {
+    if !ready::is_ready(s, scratch.len()) {
         return unsound(s);
     }
     withdrawing::isolate(s, caller, id)
@@ -113,7 +102,7 @@ pub fn isolate(s: State, scratch: &[u8], caller: Caller, id: u32) -> Reply
 pub fn query(s: State, scratch: &[u8], caller: Caller, owner: u32, name: u64) -> Answer
     ensures { λ r. ⌜ Promise (stepOf s (now (scratch .entry)) (callOf caller (Query owner name)) []) r s (now (scratch .entry)) [] ⌝ }
 {
-    if !is_ready(s, scratch.len()) {
+    if !ready::is_ready(s, scratch.len()) {
         return Answer::Unsound;
     }
     rights::query(s, caller, owner, name)
@@ -122,7 +111,7 @@ pub fn query(s: State, scratch: &[u8], caller: Caller, owner: u32, name: u64) ->
 pub fn add(s: State, scratch: &[u8], caller: Caller, id: u32, right: Right) -> Reply
     ensures { λ r. ⌜ Promise (stepOf s (now (scratch .entry)) (callOf caller (Add id right)) []) (r .answer) (r .state) (now (scratch .entry)) [] ⌝ }
 {
-    if !is_ready(s, scratch.len()) {
+    if !ready::is_ready(s, scratch.len()) {
         return unsound(s);
     }
     rights::add(s, caller, id, right)
@@ -131,7 +120,7 @@ pub fn add(s: State, scratch: &[u8], caller: Caller, id: u32, right: Right) -> R
 pub fn remove(s: State, scratch: &[u8], caller: Caller, token: u32) -> Reply
     ensures { λ r. ⌜ Promise (stepOf s (now (scratch .entry)) (callOf caller (Remove token)) []) (r .answer) (r .state) (now (scratch .entry)) [] ⌝ }
 {
-    if !is_ready(s, scratch.len()) {
+    if !ready::is_ready(s, scratch.len()) {
         return unsound(s);
     }
     rights::remove(s, caller, token)
@@ -140,7 +129,7 @@ pub fn remove(s: State, scratch: &[u8], caller: Caller, token: u32) -> Reply
 pub fn load(s: State, scratch: &[u8], caller: Caller, register: u32, value: u32) -> Reply
     ensures { λ r. ⌜ Promise (stepOf s (now (scratch .entry)) (callOf caller (Load register value)) []) (r .answer) (r .state) (now (scratch .entry)) [] ⌝ }
 {
-    if !is_ready(s, scratch.len()) {
+    if !ready::is_ready(s, scratch.len()) {
         return unsound(s);
     }
     cpus::load(s, caller, register, value)
@@ -149,7 +138,7 @@ pub fn load(s: State, scratch: &[u8], caller: Caller, register: u32, value: u32)
 pub fn mode(s: State, scratch: &[u8], caller: Caller, mode: u32) -> Reply
     ensures { λ r. ⌜ Promise (stepOf s (now (scratch .entry)) (callOf caller (Mode mode)) []) (r .answer) (r .state) (now (scratch .entry)) [] ⌝ }
 {
-    if !is_ready(s, scratch.len()) {
+    if !ready::is_ready(s, scratch.len()) {
         return unsound(s);
     }
     cpus::mode(s, caller, mode)
@@ -166,7 +155,7 @@ pub fn fetch(
 ) -> Answer
     ensures { λ r. ⌜ Promise (stepOf s (now (scratch .entry)) (callOf caller (Fetch register address)) (now (buffer .entry))) r s (now (scratch .entry)) (now (buffer .exit)) ⌝ }
 {
-    if !is_ready(s, scratch.len()) {
+    if !ready::is_ready(s, scratch.len()) {
         return Answer::Unsound;
     }
     access::fetch(s, scratch, caller, register, address, buffer)
@@ -182,7 +171,7 @@ pub fn store(
 ) -> Answer
     ensures { λ r. ⌜ Promise (stepOf s (now (scratch .entry)) (callOf caller (Store register address)) (now (bytes .entry))) r s (now (scratch .exit)) (now (bytes .entry)) ⌝ }
 {
-    if !is_ready(s, scratch.len()) {
+    if !ready::is_ready(s, scratch.len()) {
         return Answer::Unsound;
     }
     access::store(s, scratch, caller, register, address, bytes)
@@ -191,7 +180,7 @@ pub fn store(
 pub fn reset(s: State, scratch: &[u8], caller: Caller) -> Reply
     ensures { λ r. ⌜ Promise (stepOf s (now (scratch .entry)) (callOf caller Reset) []) (r .answer) (r .state) (now (scratch .entry)) [] ⌝ }
 {
-    if !is_ready(s, scratch.len()) {
+    if !ready::is_ready(s, scratch.len()) {
         return unsound(s);
     }
     withdrawing::reset(s, caller)
@@ -201,7 +190,7 @@ pub fn reset(s: State, scratch: &[u8], caller: Caller) -> Reply
 pub fn serve(s: State, scratch: &mut [u8], call: Call, buffer: &mut [u8]) -> Reply
     ensures { λ r. ⌜ Promise (stepOf s (now (scratch .entry)) call (now (buffer .entry))) (r .answer) (r .state) (now (scratch .exit)) (now (buffer .exit)) ⌝ }
 {
-    if !is_ready(s, scratch.len()) {
+    if !ready::is_ready(s, scratch.len()) {
         return unsound(s);
     }
     calls::serve(s, scratch, call, buffer)

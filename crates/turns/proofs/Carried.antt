@@ -1,5 +1,5 @@
 -- A call, carried out: by check 1 it is refused, or served, and either way it is the model's step. Assumes nothing.
-use Prim.Native.Nat.{ℕ, min, _+_, _-_, _*_, _≤_}
+use Prim.Native.Nat.{ℕ, min, _+_, _-_, _*_}
 use mathlib.Core.Bool.{true, false, not}
 use mathlib.Core.List.{List, [], _++_}
 use mathlib.Core.Path.{_≡_, refl, subst, sym, ap, _∙_}
@@ -33,9 +33,10 @@ use Rattle.model.proofs.Rules.{check-yes}
 use Rattle.model.proofs.Sound.{ready-to, ready-kept, length-scratchAfter, length-bufferAfter}
 use Rattle.calls.specs.Served.{Served}
 use Rattle.calls.proofs.Served.{query-served, fetch-served, store-served}
-use Rattle.replies.specs.Wrote.{Wrote}
+use Rattle.digits.specs.Wrote.{Wrote}
 use Rattle.turns.specs.declared.Host.{Host}
-use Rattle.turns.specs.Taken.{sessionOf, usable, dataIn, Prepared, withAt, Taken}
+use Rattle.ready.specs.Usable.{usable}
+use Rattle.turns.specs.Taken.{sessionOf, dataIn, Prepared, withAt, Taken}
 use Rattle.turns.proofs.Filled.{fetch-bare, store-given}
 use Rattle.turns.proofs.Usable.{usable-ready, usable-room, usable-back}
 

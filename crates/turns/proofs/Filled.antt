@@ -1,5 +1,5 @@
 -- The buffer that the reader has filled for a request, and the part of it that a call has. Assumes nothing.
-use Prim.Native.Nat.{ℕ, min, _+_, _-_, _≤_}
+use Prim.Native.Nat.{ℕ, min, _-_, _≤_}
 use mathlib.Core.Bool.{Bool, true, false}
 use mathlib.Core.List.{List, []}
 use mathlib.Core.Path.{_≡_, refl, subst, sym, ap, _∙_}

@@ -17,9 +17,10 @@ use Rattle.model.specs.declared.Request.the-variants.{Frames, Call as Asked, No
 use Rattle.model.specs.declared.State.{State}
 use Rattle.model.specs.Fresh.{emptyTables}
 use Rattle.model.specs.Session.{Session, LineOutcome, Turn, turn, framesTurn, lineText, requestTurn}
-use Rattle.replies.specs.Wrote.{Wrote}
+use Rattle.digits.specs.Wrote.{Wrote}
 use Rattle.turns.specs.declared.Host.{Host}
-use Rattle.turns.specs.Taken.{sessionOf, usable, withAt, Said, Taken}
+use Rattle.ready.specs.Usable.{usable}
+use Rattle.turns.specs.Taken.{sessionOf, withAt, Said, Taken}
 
 abbrev pub outcomeOf : Request → Answer → LineOutcome
 outcomeOf r a = record { request = r; answer = a; moved = [] }

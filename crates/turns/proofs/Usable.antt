@@ -17,7 +17,7 @@ use Rattle.model.specs.Calls.{ready}
 use Rattle.model.specs.SoundTest.{sound}
 use Rattle.model.specs.Step.{Ready}
 use Rattle.model.proofs.SoundTest.{sound-decides}
-use Rattle.turns.specs.Taken.{usable}
+use Rattle.ready.specs.Usable.{usable}
 
 -- it is the model's check 1 of the machine
 pub usable-ready : (s : State) (m : List ℕ) → usable s (length m) ≡ ready s (length (take (s .frames * 4096) m))

@@ -17,7 +17,8 @@ use Rattle.model.proofs.Operation as operation-cases
 use Rattle.turns.specs.declared.Answered.{Answered}
 use Rattle.turns.specs.declared.Answered.the-variants.{To, NotYet}
 use Rattle.turns.specs.declared.Host.{Host}
-use Rattle.turns.specs.Taken.{sessionOf, usable, dataIn, withAt, Taken, Waiting, AnsweredTo}
+use Rattle.ready.specs.Usable.{usable}
+use Rattle.turns.specs.Taken.{sessionOf, dataIn, withAt, Taken, Waiting, AnsweredTo}
 use Rattle.turns.proofs.Filled.{unstoring}
 
 -- the calls that change the tables, by their places in the enum

@@ -1,20 +1,17 @@
 -- What becomes of one request: the session after it, and its reply.
-use Prim.Native.Nat.{ℕ, _*_, _≤_}
-use mathlib.Core.Bool.{Bool, true}
+use Prim.Native.Nat.{ℕ, _≤_}
+use mathlib.Core.Bool.{true}
 use mathlib.Core.List.{List, []}
 use mathlib.Core.Path.{_≡_}
-use lib.Dec.{leb}
 use lib.ListN.{length, take, replicate}
 use Rattle.lists.specs.Bytes.{over}
-use Rattle.lists.specs.Choice.{choose, both}
+use Rattle.lists.specs.Choice.{choose}
 use Rattle.model.specs.declared.Request.{Request}
 use Rattle.model.specs.declared.Request.the-variants.{Frames, Call, NotRead}
-use Rattle.model.specs.declared.State.{State}
 use Rattle.model.specs.Lines.{stores, lengthOf}
 use Rattle.model.specs.Session.{Session, LineOutcome, Turn, bufferFor, lineText, requestTurn}
-use Rattle.model.specs.Sizes.{frameSize}
-use Rattle.model.specs.SoundTest.{sound}
-use Rattle.replies.specs.Wrote.{Wrote}
+use Rattle.ready.specs.Usable.{usable}
+use Rattle.digits.specs.Wrote.{Wrote}
 use Rattle.turns.specs.declared.Answered.{Answered}
 use Rattle.turns.specs.declared.Answered.the-variants.{To, NotYet}
 use Rattle.turns.specs.declared.Host.{Host}
@@ -22,10 +19,6 @@ use Rattle.turns.specs.declared.Host.{Host}
 -- where the host stands in a session
 abbrev pub sessionOf : Host → (scratch : List ℕ) → Session
 sessionOf h m = record { begun = h .begun; tables = h .state; scratch = m }
-
--- check 1 with the part of the lent scratch that is the machine's
-abbrev pub usable : State → (room : ℕ) → Bool
-usable s room = both (sound s) (leb (s .frames * frameSize) room)
 
 -- the data that stand in a request's buffer
 unfoldable pub dataIn : Request → (buffer : List ℕ) → List ℕ

@@ -1,17 +1,16 @@
 // One request of a session, with the buffer that the reader has filled for it: carried out and answered.
-ghost use Prim.Native.Nat.{min, _+_, _*_, _≤_};
+ghost use Prim.Native.Nat.{_+_, _*_, _≤_};
 ghost use mathlib.Core.Bool.{true};
 ghost use mathlib.Core.List.{[]};
 ghost use mathlib.Core.Path.{_≡_};
-ghost use lib.Dec.{leb};
 ghost use lib.ListN.{length};
-ghost use Rattle.lists.specs.Choice.{both};
 ghost use Rattle.model.specs.Lines.{lengthOf};
 ghost use Rattle.model.specs.Session.{bufferFor, framesTurn, requestTurn, lineText};
 ghost use Rattle.model.specs.declared.Operation.the-variants.{Fetch, Store};
 ghost use Rattle.model.specs.declared.Request.the-variants.{Call as Asked};
-ghost use Rattle.replies.specs.Wrote.{Wrote};
-ghost use Rattle.turns.specs.Taken.{sessionOf, usable, dataIn, Prepared, Said, Taken, Waiting, AnsweredTo, withAt};
+ghost use Rattle.ready.specs.Usable.{usable};
+ghost use Rattle.digits.specs.Wrote.{Wrote};
+ghost use Rattle.turns.specs.Taken.{sessionOf, dataIn, Prepared, Said, Taken, Waiting, AnsweredTo, withAt};
 use model::Answer;
 use model::Call;
 use model::Kind;
@@ -35,42 +34,12 @@ pub enum Answered {
     NotYet,
 }
 
-// Check 1, where more scratch may be lent than the state has frames.
-pub fn is_usable(s: State, room: usize) -> bool
-    ensures { λ r. ⌜ r ≡ usable s room ⌝ }
-{
-    if !sound::is_sound(s) {
-        return false;
-    }
-    (s.frames as usize) * 4096 <= room
-}
-
-// A session has 1 to 8 frames.
-fn in_range(count: u32) -> bool
-    ensures { λ r. ⌜ r ≡ both (leb 1 count) (leb count 8) ⌝ }
-{
-    if count < 1 {
-        return false;
-    }
-    count <= 8
-}
-
 // A reply with no bytes in it.
 fn put_empty(out: &mut [u8], at: usize, number: u64, request: Request, answer: Answer) -> usize
     requires { ⌜ at + 600 ≤ length (now out) ⌝ }
     ensures { λ r. ⌜ Wrote (now (out .entry)) at (lineText number (record { request = request; answer = answer; moved = [] })) (now (out .exit)) r ⌝ }
 {
     replies::put_line(out, at, number, request, answer, &[])
-}
-
-// How many bytes of the buffer a FETCH or a STORE has: its length, 257 at most.
-fn moved(size: u32) -> usize
-    ensures { λ r. ⌜ r ≡ min size 257 ⌝ }
-{
-    if 257 < size {
-        return 257;
-    }
-    size as usize
 }
 
 // FETCH, STORE and QUERY leave the tables, so that only the place after the reply comes back. The bytes of a FETCH or a STORE
@@ -137,7 +106,7 @@ fn answer_call(
     ensures { λ r. ⌜ AnsweredTo h request (dataIn request (now (buffer .entry))) (now (scratch .entry)) number (now (out .entry)) r (now (scratch .exit)) (now (out .exit)) ⌝ }
 {
     let operation = call.operation;
-    let n = moved(size);
+    let n = limits::buffer_length(size);
     match operation {
         Operation::Query { owner, name } => {
             let s = h.state;
@@ -254,7 +223,7 @@ fn frames(mut h: Host, scratch: &[u8], number: u64, count: u32, out: &mut [u8]) 
     if h.begun {
         return say(h, number, request, Answer::LineNotRead, out);
     }
-    if !in_range(count) {
+    if !limits::good_frames(count) {
         return say(
             h,
             number,
@@ -268,7 +237,7 @@ fn frames(mut h: Host, scratch: &[u8], number: u64, count: u32, out: &mut [u8]) 
     }
     h.begun = true;
     h.state = fresh::empty(count, 1);
-    h.ready = is_usable(h.state, scratch.len());
+    h.ready = ready::is_usable(h.state, scratch.len());
     say(h, number, request, Answer::Done { value: 0 }, out)
 }
 

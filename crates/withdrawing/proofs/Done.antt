@@ -5,7 +5,7 @@ use mathlib.Core.List.{List}
 use mathlib.Core.Path.{_≡_, sym, ap, ap₂, fun-ext, _∙_}
 use lib.Dec.{eqb}
 use lib.ListN.{replicate}
-use borrow.Author.Tests.{lt-ltb, eq-eqb, ne-eqb}
+use borrow.Author.Tests.{lt-ltb, eq-eqb}
 use Rattle.lists.specs.Choice.{choose, either}
 use Rattle.lists.proofs.Choice.{both-when}
 use Rattle.model.specs.declared.Answer.the-variants.{Done}
@@ -16,9 +16,8 @@ use Rattle.model.specs.declared.Permit.{Permit}
 use Rattle.model.specs.declared.Space.{Space}
 use Rattle.model.specs.declared.State.{State}
 use Rattle.model.specs.Arguments.{arguments, checkAll}
-use Rattle.model.specs.Applied.{resetTables}
 use Rattle.model.specs.Calls.{judge, goodCaller, enrols, perform, owning, destroy, isolate, reset}
-use Rattle.model.specs.Changes.{releasedAll, vacated, unpermitted, loses, revokedAll, withdrawn}
+use Rattle.model.specs.Changes.{releasedAll, vacated, unpermitted, loses, revokedAll, withdrawn, resetTables}
 use Rattle.model.specs.Leaves.{callerPlace, flag}
 use Rattle.model.specs.Names.{baseName}
 use Rattle.model.specs.Replies.{reply, replied, callOf}
@@ -29,8 +28,8 @@ use Rattle.withdrawing.specs.Sets.{IsSet, Sets, ownedSlots, dataSlots, l
 use Rattle.withdrawing.proofs.Sets.{none-set}
 
 -- For search: the space that was found is a primary.
-pub primary-found : (ss : List Space) (r x n : ℕ) → r ≡ x → spaceAt ss r .name ≡ n → not (eqb (spaceAt ss x .name) n) ≡ false
-primary-found ss r x n e h = rw (← e) (ap not (eq-eqb (spaceAt ss r .name) n h))
+pub primary-found : (ss : List Space) (r x n : ℕ) (b : Bool) → r ≡ x → b ≡ eqb (spaceAt ss r .name) n → b ≡ true → not (eqb (spaceAt ss x .name) n) ≡ false
+primary-found ss r x n b e t y = rw (← e) (ap not (sym t ∙ y))
 
 -- where the sets are as asked, the owner that the code compares with is each closed space's
 loses-to : (ss : List Space) (g : ℕ) (gone closed : List Bool) → Sets ss g gone closed → losesTo g (flag gone) (flag closed) ≡ loses ss (flag gone) (flag closed)
@@ -49,15 +48,15 @@ withdrawn-by : (s : State) (gone closed : List Bool) (p q : ℕ → Bool) → Is
 withdrawn-by s gone closed p q a b = ap₂ (λ x y. withdrawn x y s) (fun-ext (a .holds)) (fun-ext (b .holds))
 
 module _ (s : State) (c : Caller) (at : ℕ) (e : at ≡ callerPlace (s .guests) (c .guest)) (l : at < 8) where
-  pub destroy-done : (i u : ℕ) (one : List Bool) (t : State) → u ≡ slotOf (s .spaces) i → u < 32 → spaceAt (s .spaces) u .owner ≡ c .guest → (spaceAt (s .spaces) u .name ≡ baseName → ⊥)
+  pub destroy-done : (i u : ℕ) (b : Bool) (one : List Bool) (t : State) → u ≡ slotOf (s .spaces) i → u < 32 → spaceAt (s .spaces) u .owner ≡ c .guest → b ≡ eqb (spaceAt (s .spaces) u .name) baseName → b ≡ false
       → IsSet (eqb u) one → t ≡ withdrawn (flag one) (flag one) s → reply (Done 0) t ≡ replied s (judge s (callOf c (Destroy i)) 0)
   unfolding judge goodCaller enrols choose arguments checkAll perform destroy owning replied
-  destroy-done i u one t f h o n q w =
+  destroy-done i u b one t f h o z n q w =
       go-on _ s _ _ _ (place-yes at (s .guests) (c .guest) e l)
       (rw (← f)
       (go-on _ s _ _ _ (lt-ltb u 32 h)
       (go-on _ s _ _ _ (eq-eqb _ (c .guest) o)
-      (go-on _ s _ _ _ (ap not (ne-eqb _ baseName n)) (ap (reply (Done 0)) (w ∙ withdrawn-by s one one (eqb u) (eqb u) q q))))))
+      (go-on _ s _ _ _ (ap not (sym z ∙ n)) (ap (reply (Done 0)) (w ∙ withdrawn-by s one one (eqb u) (eqb u) q q))))))
 
   pub isolate-done : (i u : ℕ) (one : List Bool) (t : State) → u ≡ slotOf (s .spaces) i → u < 32 → spaceAt (s .spaces) u .owner ≡ c .guest
       → IsSet (eqb u) one → t ≡ withdrawn (flag (replicate 33 false)) (flag one) s → reply (Done 0) t ≡ replied s (judge s (callOf c (Isolate i)) 0)

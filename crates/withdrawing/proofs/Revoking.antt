@@ -7,28 +7,19 @@ use native.Mathlib.Decide.{decLe}
 use native.Mathlib.Omega.{arith}
 use lib.Dec.{ltb, eqb}
 use lib.ListN.{length, getD, set, List·getD-eq-default}
-use borrow.Author.Tests.{ltb-true, ltb-false, lt-ltb, le-ltb}
+use borrow.Author.Tests.{ltb-true, ltb-false}
 use Rattle.lists.specs.Choice.{choose, both, either}
-use Rattle.lists.proofs.Choice.{yes!, no!, choose-elim, choose-same, both-no, either-none}
+use Rattle.lists.proofs.Choice.{no!, choose-elim, choose-same, both-no, either-none}
 use Rattle.lists.proofs.Maps.{mapBelow}
 use Rattle.lists.proofs.Rules.{map-go}
 use Rattle.model.specs.declared.Entry.{Entry}
-use Rattle.model.specs.declared.Right.{Right}
 use Rattle.model.specs.declared.Standing.{Standing}
 use Rattle.model.specs.declared.Standing.the-variants.{Unused, Valid, Revoked}
 use Rattle.model.specs.Changes.{revokedFrom, revoked}
 use Rattle.model.specs.Leaves.{flag}
 use Rattle.model.specs.Tables.{unusedEntry}
-use Rattle.withdrawing.specs.Sets.{lookPlace, losesTo, revokedEntry}
-
--- where a valid entry looks
-pub look-slot : (x : Standing) (u : ℕ) (r : Right) → x ≡ Valid u r → u < 32 → u ≡ lookPlace x
-unfolding lookPlace
-look-slot x u r e h = rw e (sym (yes! u 32 (lt-ltb u 32 h)))
-
-pub look-last : (x : Standing) (u : ℕ) (r : Right) → x ≡ Valid u r → 32 ≤ u → 32 ≡ lookPlace x
-unfolding lookPlace
-look-last x u r e h = rw e (sym (no! u 32 (le-ltb u 32 h)))
+use Rattle.losses.specs.Looks.{lookPlace, revokedEntry}
+use Rattle.withdrawing.specs.Sets.{losesTo}
 
 -- it looks inside the tables
 pub look-inside : (x : Standing) (u : ℕ) → u ≡ lookPlace x → u < 33
@@ -89,4 +80,4 @@ revoke-one gone closed g h u e r b gl cl gf cf p q m = m ∙ rw (q, p) (by-place
 pub entries-go : (f : ℕ → Entry → Entry) (l t : List Entry) (i : ℕ) (x : Entry) → t ≡ mapBelow f i l → x ≡ f i (getD t i unusedEntry) → i < length l → set t i x ≡ mapBelow f (i + 1) l
 entries-go f l t i x = map-go f l t i x unusedEntry
 
-pub ruleset looks = (look-slot, look-last, look-inside, revoke-one, entries-go)
+pub ruleset looks = (look-inside, revoke-one, entries-go)

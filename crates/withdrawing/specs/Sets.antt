@@ -4,12 +4,9 @@ use Prim.Native.Nat.{ℕ}
 use mathlib.Core.Bool.{Bool, true, false, not}
 use mathlib.Core.List.{List}
 use mathlib.Core.Path.{_≡_}
-use lib.Dec.{ltb, eqb}
-use Rattle.lists.specs.Choice.{choose, both, either}
-use Rattle.model.specs.declared.Entry.{Entry}
+use lib.Dec.{eqb}
+use Rattle.lists.specs.Choice.{both, either}
 use Rattle.model.specs.declared.Space.{Space}
-use Rattle.model.specs.declared.Standing.{Standing}
-use Rattle.model.specs.declared.Standing.the-variants.{Unused, Valid, Revoked}
 use Rattle.model.specs.Leaves.{flag}
 use Rattle.model.specs.Searches.{isOwned, isData}
 use Rattle.model.specs.Tables.{spaceAt}
@@ -32,15 +29,6 @@ pub record Sets (ss : List Space) (g : ℕ) (gone closed : List Bool) : Type 0 w
   pub closed-last : flag closed 32 ≡ false
   pub owner : (u : ℕ) → flag closed u ≡ true → spaceAt ss u .owner ≡ g
 
--- the place at which an entry looks: the slot that it names, else the last
-unfoldable pub lookPlace : Standing → ℕ
-lookPlace Unused = 32
-lookPlace (Valid u r) = choose (ltb u 32) u 32
-lookPlace Revoked = 32
-
 -- `loses` of the model, where guest g owns every closed space
 unfoldable pub losesTo : (owner : ℕ) → (gone closed : ℕ → Bool) → (guest slot : ℕ) → Bool
 losesTo g gone closed h u = either (gone u) (both (closed u) (not (eqb g h)))
-
-abbrev pub revokedEntry : Entry → Entry
-revokedEntry e = record { standing = Revoked; sequence = e .sequence }

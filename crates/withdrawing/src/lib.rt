@@ -2,43 +2,23 @@
 // permits go. A set is a table of Booleans. Its last place is no slot and false: an entry that names no slot looks there, so
 // that every entry is looked up alike.
 ghost use Prim.Native.Nat.{_+_, _<_};
-ghost use mathlib.Core.Bool.{true, false, not};
+ghost use mathlib.Core.Bool.{true, false};
 ghost use mathlib.Core.Path.{_≡_};
 ghost use lib.Dec.{eqb};
-ghost use Rattle.lists.specs.Choice.{choose, both, either};
 ghost use Rattle.model.specs.Calls.{judge};
-ghost use Rattle.model.specs.Changes.{released, releasedAll, vacated, unpermitted, revokedAll, withdrawn};
+ghost use Rattle.model.specs.Changes.{releasedAll, vacated, unpermitted, revokedAll, withdrawn};
 ghost use Rattle.model.specs.Leaves.{flag};
 ghost use Rattle.model.specs.Replies.{replied, callOf};
 ghost use Rattle.model.specs.SoundTest.{sound};
-ghost use Rattle.model.specs.Tables.{noSpace, noPermit};
 ghost use Rattle.model.specs.declared.Operation.the-variants.{Destroy, Isolate, Reset};
-ghost use Rattle.withdrawing.specs.Sets.{IsSet, Sets, ownedSlots, dataSlots, lookPlace, losesTo, revokedEntry};
+ghost use Rattle.withdrawing.specs.Sets.{IsSet, Sets, ownedSlots, dataSlots, losesTo};
 use model::Answer;
-use model::BASE;
 use model::Caller;
 use model::Entry;
-use model::Grant;
 use model::Permit;
 use model::Reply;
 use model::Space;
-use model::Standing;
 use model::State;
-
-fn space_unless(x: Space, gone: bool) -> Space
-    ensures { λ r. ⌜ r ≡ choose gone noSpace x ⌝ }
-{
-    if gone {
-        return Space {
-            id: 0,
-            owner: 0,
-            name: 0,
-            first: 0,
-            pages: 0,
-        };
-    }
-    x
-}
 
 fn vacate(spaces: [Space; 32], gone: [bool; 33]) -> [Space; 32]
     ensures { λ r. ⌜ r ≡ vacated (flag gone) spaces ⌝ }
@@ -46,20 +26,9 @@ fn vacate(spaces: [Space; 32], gone: [bool; 33]) -> [Space; 32]
     let mut t = spaces;
     for u in 0..32usize {
         let x = t[u];
-        t[u] = space_unless(x, gone[u]);
+        t[u] = losses::space_unless(x, gone[u]);
     }
     t
-}
-
-fn permit_unless(p: Permit, closed: bool) -> Permit
-    ensures { λ r. ⌜ r ≡ choose closed noPermit p ⌝ }
-{
-    if closed {
-        return Permit {
-            grant: Grant::Nothing,
-        };
-    }
-    p
 }
 
 fn unpermit(permits: [Permit; 256], closed: [bool; 33]) -> [Permit; 256]
@@ -68,51 +37,9 @@ fn unpermit(permits: [Permit; 256], closed: [bool; 33]) -> [Permit; 256]
     let mut t = permits;
     for k in 0..256usize {
         let p = t[k];
-        t[k] = permit_unless(p, closed[k / 8]);
+        t[k] = losses::permit_unless(p, closed[k / 8]);
     }
     t
-}
-
-// Where an entry looks in a set of slots: at the slot that it names, else at the last place.
-fn look_place(e: Entry) -> usize
-    ensures { λ r. ⌜ r ≡ lookPlace (e .standing) ⌝ }
-{
-    let x = e.standing;
-    match x {
-        Standing::Unused => 32,
-        Standing::Valid { slot, right: _ } => {
-            if slot < 32 {
-                return slot as usize;
-            }
-            32
-        }
-        Standing::Revoked => 32,
-    }
-}
-
-// Every guest loses its entry for a space that is gone, and for a closed one every guest but the owner.
-fn is_lost(gone: bool, closed: bool, own: bool) -> bool
-    ensures { λ r. ⌜ r ≡ either gone (both closed (not own)) ⌝ }
-{
-    if gone {
-        return true;
-    }
-    if closed {
-        return !own;
-    }
-    false
-}
-
-fn revoke_if(e: Entry, lost: bool) -> Entry
-    ensures { λ r. ⌜ r ≡ choose lost (revokedEntry e) e ⌝ }
-{
-    if lost {
-        return Entry {
-            standing: Standing::Revoked,
-            sequence: e.sequence,
-        };
-    }
-    e
 }
 
 fn revoke(entries: [Entry; 240], owner: u32, gone: [bool; 33], closed: [bool; 33]) -> [Entry; 240]
@@ -123,19 +50,10 @@ fn revoke(entries: [Entry; 240], owner: u32, gone: [bool; 33], closed: [bool; 33
     let mut t = entries;
     for k in 0..240usize {
         let e = t[k];
-        let u = look_place(e);
-        t[k] = revoke_if(e, is_lost(gone[u], closed[u], own == k / 30 + 1));
+        let u = losses::look_place(e);
+        t[k] = losses::revoke_if(e, losses::is_lost(gone[u], closed[u], own == k / 30 + 1));
     }
     t
-}
-
-fn release_if(e: Entry, own: bool) -> Entry
-    ensures { λ r. ⌜ r ≡ choose own (released e) e ⌝ }
-{
-    if own {
-        return entries::release(e);
-    }
-    e
 }
 
 // All entries of a guest become unused.
@@ -146,7 +64,7 @@ fn release_all(entries: [Entry; 240], guest: u32) -> [Entry; 240]
     let mut t = entries;
     for k in 0..240usize {
         let e = t[k];
-        t[k] = release_if(e, k / 30 + 1 == own);
+        t[k] = losses::release_if(e, k / 30 + 1 == own);
     }
     t
 }
@@ -186,7 +104,7 @@ fn data_slots(spaces: [Space; 32], owner: u32) -> [bool; 33]
     let mut t = [false; 33];
     for u in 0..32usize {
         let x = spaces[u];
-        t[u] = lookup::is_data(x, owner);
+        t[u] = slots::is_data(x, owner);
     }
     t
 }
@@ -198,7 +116,7 @@ fn owned_slots(spaces: [Space; 32], owner: u32) -> [bool; 33]
     let mut t = [false; 33];
     for u in 0..32usize {
         let x = spaces[u];
-        t[u] = lookup::is_owned(x, owner);
+        t[u] = slots::is_owned(x, owner);
     }
     t
 }
@@ -231,7 +149,7 @@ pub fn destroy(s: State, caller: Caller, id: u32) -> Reply
             state: s,
         };
     }
-    if x.name == BASE {
+    if slots::is_base(x) {
         return Reply {
             answer: Answer::PrimarySpace,
             state: s,

@@ -4,7 +4,7 @@ use mathlib.Core.Path.{_≡_, refl}
 use native.Mathlib.Omega.{arith}
 use lib.ListN.{length}
 use borrow.Author.Needs.{needs}
-use Rattle.turns.specs.Taken.{usable}
+use Rattle.ready.specs.Usable.{usable}
 use Rattle.driver.specs.Fed.{Going}
 use Rattle.driver.proofs.Feeding.{going-start}
 use Rattle.driver.proofs.Stepped.{step-waiting, step-ready, step-room}

@@ -1,6 +1,5 @@
 -- `edges::each_clause` ends. Assumes nothing.
 use Prim.Native.Nat.{_-_, _≤_}
-use native.Mathlib.Omega.{arith}
 use borrow.Author.Needs.{needs}
 use Rattle.edges.proofs.each_clause.Statement.{statement}
 use Rattle.edges.proofs.each_clause.Tie as tie

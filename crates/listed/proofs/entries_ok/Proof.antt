@@ -5,7 +5,7 @@ use mathlib.Core.Path.{_≡_}
 use native.Mathlib.Omega.{arith}
 use borrow.Author.Needs.{needs}
 use Rattle.lists.proofs.Rules.{and-go, and-stop, test-yes}
-use Rattle.listed.proofs.Loops.{Left, left-go, lefts}
+use Rattle.lists.proofs.Loops.{Left, left-go, lefts}
 use Rattle.listed.specs.Standings.{standingsWith, aboveTest}
 use Rattle.listed.proofs.Passes.{standingAt, standingsAt, untouchedAt, aboveAt, above-stop}
 use Rattle.listed.proofs.entries_ok.Statement.{statement}

@@ -10,8 +10,8 @@ new-place-requires c κs = search needs
 returns : tie.Need-returns
 returns c = search enrol-caller
 
-wrong-argument-requires : tie.Need-wrong-argument-requires
-wrong-argument-requires c κs = search needs
+wrong-setting-requires : tie.Need-wrong-setting-requires
+wrong-setting-requires c κs = search needs
 
 kind-at-requires : tie.Need-kind-at-requires
 kind-at-requires c κs = search needs
@@ -46,7 +46,7 @@ enrol-spec =
     (tie.spec
     new-place-requires
     returns
-    wrong-argument-requires
+    wrong-setting-requires
     kind-at-requires
     returns-2
     cast-t17

@@ -1,6 +1,5 @@
 -- `rounds::decimal` is safe and ends.
 use Prim.Native.Nat.{_≤_, _-_}
-use native.Mathlib.Omega.{arith}
 use borrow.Author.Needs.{needs}
 use lib.ListN.{length}
 use Rattle.rounds.proofs.decimal.Statement.{statement}

@@ -8,8 +8,8 @@ use Rattle.turns.proofs.Waiting.{call-waits, call-bare}
 use Rattle.turns.proofs.answer_call.Statement.{statement}
 use Rattle.turns.proofs.answer_call.Tie as tie
 
-moved-requires : tie.Need-moved-requires
-moved-requires c κs = search needs
+buffer-length-requires : tie.Need-buffer-length-requires
+buffer-length-requires c κs = search needs
 
 enum-known-operation : tie.Need-enum-known-operation
 enum-known-operation c = search needs
@@ -87,7 +87,7 @@ pub answer-call-spec : {M : Type 1} → statement M
 answer-call-spec =
     tie.close
     (tie.spec
-    moved-requires
+    buffer-length-requires
     enum-known-operation
     query-requires
     put-empty-requires

@@ -14,8 +14,8 @@ same-length c = search needs
 returns : tie.Need-returns
 returns c = search (frames-again, tests)
 
-in-range-requires : tie.Need-in-range-requires
-in-range-requires c κs = search needs
+good-frames-requires : tie.Need-good-frames-requires
+good-frames-requires c κs = search needs
 
 say-requires-2 : tie.Need-say-requires-2
 say-requires-2 c κs = search needs
@@ -48,7 +48,7 @@ frames-spec =
     say-requires
     same-length
     returns
-    in-range-requires
+    good-frames-requires
     say-requires-2
     same-length-2
     returns-2

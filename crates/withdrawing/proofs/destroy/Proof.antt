@@ -37,6 +37,9 @@ returns-3 : tie.Need-returns-3
 unfolding judge goodCaller enrols choose arguments checkAll perform destroy owning
 returns-3 c = search (checks, places, found) depth 8
 
+is-base-requires : tie.Need-is-base-requires
+is-base-requires c κs = search needs
+
 returns-4 : tie.Need-returns-4
 unfolding judge goodCaller enrols choose arguments checkAll perform destroy owning
 returns-4 c = search (checks, places, found, primary-found) depth 8
@@ -62,6 +65,7 @@ destroy-spec =
     array-copy-out-x
     cast-if3
     returns-3
+    is-base-requires
     returns-4
     only-requires
     withdraw-requires

@@ -1,6 +1,5 @@
 -- `edges::states::all_created` ends. Assumes nothing.
 use Prim.Native.Nat.{_-_, _≤_}
-use native.Mathlib.Omega.{arith}
 use borrow.Author.Needs.{needs}
 use Rattle.edges.proofs.states.all_created.Statement.{statement}
 use Rattle.edges.proofs.states.all_created.Tie as tie

@@ -6,7 +6,7 @@ use Rattle.model.specs.Tables.{spaceAt}
 use Rattle.sound.specs.Columns.{tagAt, slotsTest}
 use Rattle.permitted.proofs.Tables.{Filling, fill-start, fills}
 use Rattle.lists.proofs.Rules.{test-no, test-yes}
-use Rattle.listed.proofs.Loops.{Left, left-every, left-go}
+use Rattle.lists.proofs.Loops.{Left, left-every, left-go}
 use Rattle.sound.proofs.SlotLoop.{slot-is, slots-stop, slots-done}
 use Rattle.sound.proofs.slots.slots_ok.Statement.{statement}
 use Rattle.sound.proofs.slots.slots_ok.Tie as tie

@@ -1,0 +1,5 @@
+pub mod Decisions
+pub mod Cases
+pub mod InstanceRun
+pub mod Instance
+pub mod InstanceRecord

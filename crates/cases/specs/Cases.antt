@@ -1,0 +1,105 @@
+-- Paper 01, "Both sides of each edge": the cases marked P, and the case of the free frames, as one table. A case is a start
+-- state and calls with what each must answer; each goes through the whole decision, check 1 included.
+use Prim.Native.Nat.{ℕ, _*_}
+use mathlib.Core.Bool.{Bool, true}
+use mathlib.Core.List.{List, [], _∷_}
+use lib.ListN.{set}
+use lib.Dec.{eqb}
+use Rattle.lists.specs.Choice.{both}
+use Rattle.model.specs.declared.Call.{Call}
+use Rattle.model.specs.declared.Operation.{Operation}
+use Rattle.model.specs.declared.Operation.the-variants.{Enrol, Create, Add, Remove, Load, Mode, Fetch, Store}
+use Rattle.model.specs.declared.Right.the-variants.{Read, Write}
+use Rattle.model.specs.declared.Standing.the-variants.{Valid}
+use Rattle.model.specs.declared.State.{State}
+use Rattle.model.specs.Answers.{number, value}
+use Rattle.model.specs.Calls.{decide}
+use Rattle.model.specs.Decision.{after}
+use Rattle.model.specs.Fresh.{emptyTables}
+use Rattle.model.specs.Names.{baseName}
+use Rattle.model.specs.Tables.{withSpaces, withGuests, withEntries}
+
+-- guest 1 makes a call with a buffer of `room` bytes, and it must answer so
+pub record Trial : Type 0 where
+  pub operation : Operation
+  pub room : ℕ
+  pub answer : ℕ
+  pub value : ℕ
+
+abbrev pub trial : Operation → (room answer value : ℕ) → Trial
+trial o n a v = record { operation = o; room = n; answer = a; value = v }
+
+abbrev pub byFirst : Operation → Call
+byFirst o = record { caller = record { guest = 1 }; operation = o }
+
+-- every call of the list answers as it must
+unfoldable pub passes : State → List Trial → Bool
+passes s [] = true
+passes s (t ∷ ts) =
+    let d = decide s (s .frames * 4096) (byFirst (t .operation)) (t .room) in
+    both (both (eqb (number (d .answer)) (t .answer)) (eqb (value (d .answer)) (t .value))) (passes (after s d) ts)
+
+-- guest 1 enrols with one page and a list of L entries, adds its own space, and loads the token t into register 1
+abbrev pub holding : (list : ℕ) → Trial
+holding l = trial (Enrol 1 2 1 l 1) 0 0 1
+
+abbrev pub withToken : (list token : ℕ) → List Trial → List Trial
+withToken l t more =
+    holding l ∷ trial (Add 1 Read) 0 0 2 ∷ trial (Mode 1) 0 0 0 ∷ trial (Load 1 t) 0 0 0 ∷ more
+
+-- "name" is the number of the eight bytes of A and seven blanks
+abbrev pub nameA : ℕ
+nameA = 4692786134070075424
+
+-- P11's start: guest 1 with entry 2 valid for its own space and sequence 255
+unfoldable pub wornTables : State
+wornTables =
+    withEntries
+    (withSpaces
+    (withGuests (emptyTables 8 2) (set (emptyTables 8 2 .guests) 0 (record { enrolled = true; allowance = 2; share = true; list = 4; asf = true })))
+    (set (emptyTables 8 2 .spaces) 0 (record { id = 1; owner = 1; name = baseName; first = 0; pages = 1 })))
+    (set (emptyTables 8 2 .entries) 0 (record { standing = Valid 0 Write; sequence = 255 }))
+
+-- "Free frames 0 and 2 of 3": guest 1's primary space has frame 1
+unfoldable pub gapTables : State
+gapTables =
+    withSpaces
+    (withGuests (emptyTables 3 2) (set (emptyTables 3 2 .guests) 0 (record { enrolled = true; allowance = 2; share = true; list = 4; asf = true })))
+    (set (emptyTables 3 2 .spaces) 0 (record { id = 1; owner = 1; name = baseName; first = 1; pages = 1 }))
+
+pub record Case : Type 0 where
+  pub start : State
+  pub trials : List Trial
+
+abbrev pub case : State → List Trial → Case
+case s ts = record { start = s; trials = ts }
+
+unfoldable pub cases : List Case
+cases =
+    -- P1 token 2, first ADD in a list: accepted
+    case (emptyTables 8 1) (withToken 4 2 (trial (Fetch 1 0) 1 0 0 ∷ []))
+    -- P2 token 1: 14
+    ∷ case (emptyTables 8 1) (withToken 4 1 (trial (Fetch 1 0) 1 14 0 ∷ []))
+    -- P3 token 31 with L = 30: well formed
+    ∷ case (emptyTables 8 1) (withToken 30 31 (trial (Fetch 1 0) 1 15 0 ∷ []))
+    -- P4 token 32: 14
+    ∷ case (emptyTables 8 1) (withToken 30 32 (trial (Fetch 1 0) 1 14 0 ∷ []))
+    -- P5 token 16,777,218: 14
+    ∷ case (emptyTables 8 1) (withToken 4 16777218 (trial (Fetch 1 0) 1 14 0 ∷ []))
+    -- P6 L = 4, token 5 unused: 15
+    ∷ case (emptyTables 8 1) (withToken 4 5 (trial (Fetch 1 0) 1 15 0 ∷ []))
+    -- P7 L = 4, token 6: 15
+    ∷ case (emptyTables 8 1) (withToken 4 6 (trial (Fetch 1 0) 1 15 0 ∷ []))
+    -- P8 one-page space, address 4,095, length 1: done; P9 length 2: 17; P10 address 4,294,967,295, length 1: 17
+    ∷ case (emptyTables 8 1) (withToken 4 2 (trial (Fetch 1 4095) 1 0 0 ∷ trial (Fetch 1 4095) 2 17 0 ∷ trial (Fetch 1 4294967295) 1 17 0 ∷ []))
+    -- P11 sequence 255 removed: next token of entry 2 is 2
+    ∷ case wornTables (trial (Remove 16711682) 0 0 0 ∷ trial (Add 1 Write) 0 0 2 ∷ [])
+    -- P12 store out of range through a read entry: 17, not 18
+    ∷ case (emptyTables 8 1) (withToken 4 2 (trial (Store 1 4096) 1 17 0 ∷ trial (Store 1 4095) 1 18 0 ∷ []))
+    -- "Free frames 0 and 2 of 3: two pages refused with 10, one page placed at 0"
+    ∷ case gapTables (trial (Create nameA 2) 0 10 0 ∷ trial (Create nameA 1) 0 0 2 ∷ [])
+    ∷ []
+
+unfoldable pub allPass : List Case → Bool
+allPass [] = true
+allPass (c ∷ cs) = both (passes (c .start) (c .trials)) (allPass cs)

@@ -1,0 +1,4 @@
+pub mod Writing
+pub mod Decimals
+pub mod Hexes
+pub mod ReadsBack

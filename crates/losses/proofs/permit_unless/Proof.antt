@@ -1,0 +1,13 @@
+-- `losses::permit_unless` meets its contract. Assumes nothing.
+use Rattle.lists.proofs.Rules.{tests}
+use Rattle.losses.proofs.permit_unless.Statement.{statement}
+use Rattle.losses.proofs.permit_unless.Tie as tie
+
+returns : tie.Need-returns
+returns c = search tests
+
+returns-2 : tie.Need-returns-2
+returns-2 c = search tests
+
+pub permit-unless-spec : {M : Type 1} → statement M
+permit-unless-spec = tie.close (tie.spec returns returns-2)

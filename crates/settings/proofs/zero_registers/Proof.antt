@@ -1,0 +1,54 @@
+-- `settings::zero_registers` meets its contract. Assumes nothing.
+use Prim.Native.Nat.{_-_}
+use lib.Dec.{eqb}
+use lib.ListN.{getD}
+use borrow.Author.Needs.{needs}
+use Rattle.lists.specs.Places.{every}
+use Rattle.lists.proofs.Loops.{Left, lefts}
+use Rattle.settings.proofs.zero_registers.Statement.{statement}
+use Rattle.settings.proofs.zero_registers.Tie as tie
+
+abbrev Inv-loop : tie.InvT-loop
+Inv-loop registers i₀ i = Left (every (λ k. eqb (getD registers k 0) 0) 16) (λ k. eqb (getD registers k 0) 0) i 16
+
+abbrev μ-loop : tie.MeasureT-loop
+μ-loop registers i₀ i = 16 - i
+
+loop-holds : tie.Need-loop-holds Inv-loop μ-loop
+loop-holds c = search lefts depth 6
+
+mul-if1 : tie.Need-mul-if1 Inv-loop μ-loop
+mul-if1 c = search needs
+
+array-read-if1 : tie.Need-array-read-if1 Inv-loop μ-loop
+array-read-if1 c = search needs
+
+returns : tie.Need-returns Inv-loop μ-loop
+returns c = search lefts depth 6
+
+add-i : tie.Need-add-i Inv-loop μ-loop
+add-i c = search needs
+
+loop-less : tie.Need-loop-less Inv-loop μ-loop
+loop-less c = search needs
+
+loop-again : tie.Need-loop-again Inv-loop μ-loop
+loop-again c = search lefts depth 6
+
+returns-2 : tie.Need-returns-2 Inv-loop μ-loop
+returns-2 c = search lefts depth 6
+
+pub zero-registers-spec : {M : Type 1} → statement M
+zero-registers-spec =
+    tie.close
+    (tie.spec
+    Inv-loop
+    μ-loop
+    loop-holds
+    mul-if1
+    array-read-if1
+    returns
+    add-i
+    loop-less
+    loop-again
+    returns-2)
