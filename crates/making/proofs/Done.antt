@@ -23,6 +23,7 @@ use Rattle.model.specs.declared.Space.{Space}
 use Rattle.model.specs.declared.State.{State}
 use Rattle.model.specs.Arguments.{arguments, checkAll}
 use Rattle.model.specs.Calls.{newSpace, making, create, perform, enrols, goodCaller, judge}
+use Rattle.model.specs.Changes.{withSpace}
 use Rattle.model.specs.Decision.{Decision, check}
 use Rattle.model.specs.Frames.{layout, frameOf, framesOf}
 use Rattle.model.specs.Leaves.{callerPlace}
