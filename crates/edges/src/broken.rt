@@ -1,4 +1,4 @@
-// A sound state with one clause of soundness broken, each alone.
+// A sound state with one clause of soundness broken, each alone. The program's arguments say what the clauses are, in order.
 use crate::states;
 use model::BASE;
 use model::Entry;
@@ -20,16 +20,6 @@ fn head(mut s: State, k: u32) -> State {
     s
 }
 
-fn say_head(k: u32) {
-    match k {
-        0 => io::write_all(1, b" F is 0"),
-        1 => io::write_all(1, b" F is 513"),
-        2 => io::write_all(1, b" next identification 0"),
-        _ => io::write_all(1, b" next identification 65537"),
-    }
-    ;
-}
-
 // TEMP, in slot 2.
 fn live_space(mut s: State, k: u32) -> State {
     let mut x = s.spaces[2];
@@ -47,20 +37,6 @@ fn live_space(mut s: State, k: u32) -> State {
     s
 }
 
-fn say_live_space(k: u32) {
-    match k {
-        4 => io::write_all(1, b" a space's owner is not enrolled"),
-        5 => io::write_all(1, b" a space of no pages"),
-        6 => io::write_all(1, b" a space's frame outside F"),
-        7 => io::write_all(1, b" a frame of two spaces"),
-        8 => io::write_all(1, b" an identification not below the next"),
-        9 => io::write_all(1, b" an identification of two spaces"),
-        10 => io::write_all(1, b" a name in lower case"),
-        _ => io::write_all(1, b" two spaces of an owner with one name"),
-    }
-    ;
-}
-
 // Slot 3, which no space has.
 fn dead_space(mut s: State, k: u32) -> State {
     let mut x = s.spaces[3];
@@ -72,16 +48,6 @@ fn dead_space(mut s: State, k: u32) -> State {
     }
     s.spaces[3] = x;
     s
-}
-
-fn say_dead_space(k: u32) {
-    match k {
-        12 => io::write_all(1, b" an unused slot with an owner"),
-        13 => io::write_all(1, b" an unused slot with a name"),
-        14 => io::write_all(1, b" an unused slot with a first frame"),
-        _ => io::write_all(1, b" an unused slot with pages"),
-    }
-    ;
 }
 
 // Guest 1, who is enrolled.
@@ -103,18 +69,6 @@ fn enrolled_guest(mut s: State, k: u32) -> State {
     s
 }
 
-fn say_enrolled_guest(k: u32) {
-    match k {
-        16 => io::write_all(1, b" a guest without a primary"),
-        17 => io::write_all(1, b" more data spaces than the allowance"),
-        18 => io::write_all(1, b" an allowance of 32"),
-        19 => io::write_all(1, b" a list of 0"),
-        20 => io::write_all(1, b" a list of 31"),
-        _ => io::write_all(1, b" access-register mode without ASF"),
-    }
-    ;
-}
-
 // Guest 3, who is not.
 fn absent_guest(mut s: State, k: u32) -> State {
     let mut g = s.guests[2];
@@ -132,18 +86,6 @@ fn absent_guest(mut s: State, k: u32) -> State {
     s
 }
 
-fn say_absent_guest(k: u32) {
-    match k {
-        22 => io::write_all(1, b" a guest not enrolled with an allowance"),
-        23 => io::write_all(1, b" a guest not enrolled that shares"),
-        24 => io::write_all(1, b" a guest not enrolled with a list"),
-        25 => io::write_all(1, b" a guest not enrolled with ASF"),
-        26 => io::write_all(1, b" a guest not enrolled in access-register mode"),
-        _ => io::write_all(1, b" a guest not enrolled with a register"),
-    }
-    ;
-}
-
 // The permit of the space in slot u to guest h stands at place u * 8 + h - 1.
 fn permit(mut s: State, k: u32) -> State {
     let reading = Permit {
@@ -156,16 +98,6 @@ fn permit(mut s: State, k: u32) -> State {
         _ => s.permits[16] = reading,
     }
     s
-}
-
-fn say_permit(k: u32) {
-    match k {
-        28 => io::write_all(1, b" a permit for an unused slot"),
-        29 => io::write_all(1, b" a permit by an owner that doesn't share"),
-        30 => io::write_all(1, b" a permit to a guest not enrolled"),
-        _ => io::write_all(1, b" a permit to the owner"),
-    }
-    ;
 }
 
 // Entry n of guest g stands at place (g - 1) * 30 + n - 2.
@@ -197,17 +129,6 @@ fn list_entry(mut s: State, k: u32) -> State {
     s
 }
 
-fn say_list_entry(k: u32) {
-    match k {
-        32 => io::write_all(1, b" a valid entry of an unused slot"),
-        33 => io::write_all(1, b" a valid entry of slot 32"),
-        34 => io::write_all(1, b" a valid entry of a space not permitted"),
-        35 => io::write_all(1, b" a write entry by a read permit"),
-        _ => io::write_all(1, b" a sequence above the list"),
-    }
-    ;
-}
-
 pub(crate) fn state(s: State, k: u32) -> State {
     if k < 4 {
         return head(s, k);
@@ -228,26 +149,4 @@ pub(crate) fn state(s: State, k: u32) -> State {
         return permit(s, k);
     }
     list_entry(s, k)
-}
-
-pub(crate) fn say(k: u32) {
-    if k < 4 {
-        return say_head(k);
-    }
-    if k < 12 {
-        return say_live_space(k);
-    }
-    if k < 16 {
-        return say_dead_space(k);
-    }
-    if k < 22 {
-        return say_enrolled_guest(k);
-    }
-    if k < 28 {
-        return say_absent_guest(k);
-    }
-    if k < 32 {
-        return say_permit(k);
-    }
-    say_list_entry(k)
 }

@@ -102,10 +102,17 @@ fn fresh_states() {
     told_reply(b"fresh 4294967295:", spaces::fresh(4294967295));
 }
 
-fn clause(s: State, k: u32) {
-    io::write_all(1, b"clause broken,");
-    broken::say(k);
+// The program's arguments say what the clauses are, in order.
+fn print_clause(k: u32) {
+    let mut text = io::buffer();
+    let n = os::arg(k as usize + 1, &mut text);
+    io::write_all(1, b"clause broken, ");
+    io::write_all(1, &text[..n]);
     io::write_all(1, b":");
+}
+
+fn clause(s: State, k: u32) {
+    print_clause(k);
     all_calls(broken::state(s, k), 32768);
 }
 
