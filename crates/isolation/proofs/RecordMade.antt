@@ -18,7 +18,7 @@ use Rattle.model.specs.declared.Space.{Space}
 use Rattle.model.specs.declared.State.{State}
 use Rattle.model.specs.Answers.{value}
 use Rattle.model.specs.Calls.{newSpace, newGuest, enrolling}
-use Rattle.model.specs.Changes.{withSpace, applied}
+use Rattle.model.specs.Changes.{spaceAdded, applied}
 use Rattle.model.specs.Decision.{Decision, after}
 use Rattle.model.specs.Granted.{Made, Created}
 use Rattle.model.specs.Names.{baseName}
@@ -38,7 +38,7 @@ use Rattle.isolation.proofs.Record.{Memory, told, Remembers, gives-same
 module _ (s : State) (m : Memory) (ok : Sound s) (rem : Remembers s m) where
   -- the law of both: hs are the guests after the call, `home` says where each guest's home is then
   made-told : (hs : List Guest) (g name pages : ℕ) (c : Change) (d : Decision) (home : ℕ → ℕ)
-      → applied s c ≡ withSpace (withGuests s hs) (freeSlot (s .spaces)) (newSpace s g name pages) → Made s pages c d
+      → applied s c ≡ spaceAdded (withGuests s hs) (freeSlot (s .spaces)) (newSpace s g name pages) → Made s pages c d
       → (name ≡ baseName → home g ≡ s .next)
       → ((u : ℕ) → Live (s .spaces) u → home (spaceAt (s .spaces) u .owner) ≡ m .home (spaceAt (s .spaces) u .owner))
       → Remembers (after s d) (record { owner = λ x. choose (eqb (s .next) x) g (m .owner x); home = home; grant = m .grant; token = m .token; mode = m .mode; load = m .load })

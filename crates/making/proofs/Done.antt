@@ -23,7 +23,7 @@ use Rattle.model.specs.declared.Space.{Space}
 use Rattle.model.specs.declared.State.{State}
 use Rattle.model.specs.Arguments.{arguments, checkAll}
 use Rattle.model.specs.Calls.{newSpace, making, create, perform, enrols, goodCaller, judge}
-use Rattle.model.specs.Changes.{withSpace}
+use Rattle.model.specs.Changes.{spaceAdded}
 use Rattle.model.specs.Decision.{Decision, check}
 use Rattle.model.specs.Frames.{layout, frameOf, framesOf}
 use Rattle.model.specs.Leaves.{callerPlace}
@@ -58,9 +58,9 @@ module _ (s : State) (guests : List Guest) (owner name pages slot first : ℕ) (
   new = record { id = s .next; owner = owner; name = name; first = first; pages = pages }
 
   abbrev t : State
-  t = withSpace (withGuests s guests) slot new
+  t = spaceAdded (withGuests s guests) slot new
 
-  state-is : withSpace (withGuests s guests) (freeSlot (s .spaces)) (newSpace s owner name pages) ≡ t
+  state-is : spaceAdded (withGuests s guests) (freeSlot (s .spaces)) (newSpace s owner name pages) ≡ t
   unfolding newSpace
   state-is = rw (slot-is, first-is) refl
 

@@ -7,7 +7,7 @@ use Rattle.model.specs.declared.Guest.{Guest}
 use Rattle.model.specs.declared.Reply.{Reply}
 use Rattle.model.specs.declared.State.{State}
 use Rattle.model.specs.Calls.{making, newSpace}
-use Rattle.model.specs.Changes.{withSpace, applied}
+use Rattle.model.specs.Changes.{spaceAdded, applied}
 use Rattle.model.specs.Decision.{Decision, after as tablesAfter}
 use Rattle.model.specs.Replies.{replied}
 use Rattle.model.specs.Searches.{freeSlot}
@@ -21,4 +21,4 @@ pub record MadeBy (s : State) (d : Decision) (r : Reply) (before after : List �
 -- whatever the change is called that leaves these tables: hs are the guests after it
 abbrev pub Makes : State → (hs : List Guest) → (guest name pages : ℕ) → Reply → (before after : List ℕ) → Type 0
 Makes s hs g name pages r m m' =
-    (c : Change) → applied s c ≡ withSpace (withGuests s hs) (freeSlot (s .spaces)) (newSpace s g name pages) → MadeBy s (making s pages c) r m m'
+    (c : Change) → applied s c ≡ spaceAdded (withGuests s hs) (freeSlot (s .spaces)) (newSpace s g name pages) → MadeBy s (making s pages c) r m m'

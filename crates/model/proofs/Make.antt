@@ -18,7 +18,7 @@ use Rattle.model.specs.declared.Guest.{Guest}
 use Rattle.model.specs.declared.Space.{Space}
 use Rattle.model.specs.declared.State.{State}
 use Rattle.model.specs.Calls.{newSpace, newGuest, enrolling}
-use Rattle.model.specs.Changes.{withSpace, applied}
+use Rattle.model.specs.Changes.{spaceAdded, applied}
 use Rattle.model.specs.Decision.{Decision, after}
 use Rattle.model.specs.Granted.{Made, Created}
 use Rattle.model.specs.Names.{blanks, nameRest, nameForm, nameBytes, goodName, baseName}
@@ -145,7 +145,7 @@ spacesAfter s g name pages = set (s .spaces) (freeSlot (s .spaces)) (newSpace s 
 
 -- the law of both calls: hs are the guests after the call
 sound-made : (s : State) (hs : List Guest) (g name pages : ℕ) (c : Change) (d : Decision) → Sound s
-    → applied s c ≡ withSpace (withGuests s hs) (freeSlot (s .spaces)) (newSpace s g name pages) → Made s pages c d
+    → applied s c ≡ spaceAdded (withGuests s hs) (freeSlot (s .spaces)) (newSpace s g name pages) → Made s pages c d
     → Keeps (s .guests) hs g → Settled (spacesAfter s g name pages) (guestAt hs g) (cpuAt (s .cpus) (guestPlace g)) g
     → 1 ≤ pages → goodName name ≡ true → ((u : ℕ) → Live (s .spaces) u → spaceAt (s .spaces) u .owner ≡ g → spaceAt (s .spaces) u .name ≡ name → ⊥)
     → Sound (after s d)

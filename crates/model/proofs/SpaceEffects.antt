@@ -29,7 +29,7 @@ use Rattle.model.specs.declared.Standing.the-variants.{Unused, Valid, Re
 use Rattle.model.specs.declared.State.{State}
 use Rattle.model.specs.Answers.{value}
 use Rattle.model.specs.Calls.{newSpace, newGuest, enrols, goodCaller}
-use Rattle.model.specs.Changes.{released, releasedFrom, revokedFrom, revoked, loses, withdrawn, resetTables, withSpace, applied}
+use Rattle.model.specs.Changes.{released, releasedFrom, revokedFrom, revoked, loses, withdrawn, resetTables, spaceAdded, applied}
 use Rattle.model.specs.Decision.{Decision, after, none, accept}
 use Rattle.model.specs.Frames.{layout, frameOf, bytesOf}
 use Rattle.model.specs.Granted.{Made, Performed}
@@ -133,7 +133,7 @@ pub record ResetEffect (s : State) (g : ℕ) (d : Decision) : Type 0 where
 
 -- One law of making serves both.
 make-does : (s : State) (hs : List Guest) (g name pages : ℕ) (c : Change) (d : Decision) → Sound s → Sound (after s d)
-    → applied s c ≡ withSpace (withGuests s hs) (freeSlot (s .spaces)) (newSpace s g name pages) → Made s pages c d → MakeEffect s g name pages d
+    → applied s c ≡ spaceAdded (withGuests s hs) (freeSlot (s .spaces)) (newSpace s g name pages) → Made s pages c d → MakeEffect s g name pages d
 unfolding newSpace value scratchAfter
 make-does s hs g name pages c d ok fine to m =
     let u = freeSlot (s .spaces) in

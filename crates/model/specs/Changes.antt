@@ -98,18 +98,18 @@ resetTables s g =
     withEntries t (releasedAll g (t .entries))
 
 -- Making a space: it stands in slot u, and its identification has been given.
-abbrev pub withSpace : State → (slot : ℕ) → Space → State
-withSpace s u x = withNext (withSpaces s (set (s .spaces) u x)) (s .next + 1)
+abbrev pub spaceAdded : State → (slot : ℕ) → Space → State
+spaceAdded s u x = withNext (withSpaces s (set (s .spaces) u x)) (s .next + 1)
 
--- The tables after a change. The places are those of CPUs, permits, entries and guests in their tables.
+-- The tables after a change: nothing, one element, a space made, spaces withdrawn. `k` is a place in the table of the element.
 abbrev pub applied : State → Change → State
 applied s Keep = s
 applied s (SetPermit k p) = withPermits s (set (s .permits) k p)
 applied s (SetEntry k e) = withEntries s (set (s .entries) k e)
 applied s (SetRegister k r v) = withCpus s (set (s .cpus) k (record { registers = set (cpuAt (s .cpus) k .registers) r v; mode = cpuAt (s .cpus) k .mode }))
 applied s (SetMode k m) = withCpus s (set (s .cpus) k (record { registers = cpuAt (s .cpus) k .registers; mode = m }))
-applied s (AddSpace u x) = withSpace s u x
-applied s (AddGuest u x k y) = withSpace (withGuests s (set (s .guests) k y)) u x
+applied s (AddSpace u x) = spaceAdded s u x
+applied s (AddGuest u x k y) = spaceAdded (withGuests s (set (s .guests) k y)) u x
 applied s (DestroySpace u) = withdrawn (eqb u) (eqb u) s
 applied s (IsolateSpace u) = withdrawn (λ v. false) (eqb u) s
 applied s (ResetGuest g) = resetTables s g

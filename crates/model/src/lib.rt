@@ -171,8 +171,9 @@ pub struct Call {
     pub operation: Operation,
 }
 
-// What a done call changes in the tables: one element, or all that belongs to the spaces that it withdraws. specs/Changes.antt
-// gives the tables after each. A place, or a number of a CPU, is that of an element in its table.
+// What a call changes in the tables, as the statements name it: nothing, one element, a new space with or without its guest, or
+// all that belongs to spaces that are withdrawn. specs/Changes.antt gives the tables after each. A place, or the number of a
+// CPU, is that of an element in its table.
 pub enum Change {
     Keep,
     SetPermit {
