@@ -2,5 +2,4 @@ pub mod Marks
 pub mod Rings
 pub mod Warns
 pub mod Whole
-pub mod Against
 pub mod Rules

@@ -1,15 +1,6 @@
--- For search: what the two tests say together, and the last step of the exact one. Assumes nothing.
-use mathlib.Core.Bool.{Bool, true, false, not}
-use mathlib.Core.Path.{_≡_, refl, sym, ap, _∙_}
-use Rattle.lists.specs.Choice.{both, implies}
-use Rattle.lists.proofs.Choice.{true-false, both-yes}
+-- For search: what a test says that is right where it says yes. Assumes nothing.
+use mathlib.Core.Bool.{Bool, true}
+use mathlib.Core.Path.{_≡_, sym}
 
--- a test that is right where it says yes, and says yes
 pub sure-is : (r t : Bool) → (r ≡ true → t ≡ true) → r ≡ true → true ≡ t
 sure-is r t f e = sym (f e)
-
--- two live spaces whose frames and identifications differ
-pub names-decide : (l f i r n : Bool) → l ≡ true → f ≡ true → i ≡ true → r ≡ n → not r ≡ implies l (both f (both i (not n)))
-unfolding implies
-names-decide true f i r n l p q e = ap not e ∙ sym (both-yes _ p ∙ both-yes _ q)
-names-decide false f i r n l p q e = true-false l refl

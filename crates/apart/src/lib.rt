@@ -3,7 +3,6 @@ ghost use mathlib.Core.Path.{_≡_};
 ghost use Rattle.model.specs.SoundTest.{apartTest};
 use model::Space;
 
-mod pairs;
 mod quick;
 
 // The quick test first; where it is unsure, the exact one decides.

@@ -10,6 +10,7 @@ use Rattle.model.specs.declared.Operation.{Operation}
 use Rattle.model.specs.declared.Operation.the-variants.{Enrol, Create, Destroy, Permit, Isolate, Query, Add, Remove, Load, Mode, Fetch, Store, Reset}
 use Rattle.model.specs.declared.Reply.{Reply}
 use Rattle.model.specs.declared.Right.{Right}
+use Rattle.model.specs.declared.Settings.{Settings}
 use Rattle.model.specs.declared.State.{State}
 use Rattle.model.specs.Calls.{judge}
 use Rattle.model.specs.Decision.{after}
@@ -65,9 +66,9 @@ module _ (s : State) (k : Call) (m b : List ℕ) where
   abbrev Replied : Operation → Reply → Type 0
   Replied o r = r ≡ replied s (judge s (callOf (k .caller) o) 0)
 
-  pub enrol-served : (pages allowance share list asf : ℕ) (r : Reply) (m' : List ℕ) → k .operation ≡ Enrol pages allowance share list asf
-      → MadeBy s (judge s (callOf (k .caller) (Enrol pages allowance share list asf)) 0) r m m' → Served s k r m b m' b
-  enrol-served pages allowance share list asf r m' e = rw e (made s (k .caller) (Enrol pages allowance share list asf) m b tt tt r m')
+  pub enrol-served : (x : Settings) (r : Reply) (m' : List ℕ) → k .operation ≡ Enrol x
+      → MadeBy s (judge s (callOf (k .caller) (Enrol x)) 0) r m m' → Served s k r m b m' b
+  enrol-served x r m' e = rw e (made s (k .caller) (Enrol x) m b tt tt r m')
 
   pub create-served : (name pages : ℕ) (r : Reply) (m' : List ℕ) → k .operation ≡ Create name pages
       → MadeBy s (judge s (callOf (k .caller) (Create name pages)) 0) r m m' → Served s k r m b m' b

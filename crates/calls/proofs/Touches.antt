@@ -27,7 +27,7 @@ pub data Touch : Type 0 where
   bytes : Touch
 
 abbrev pub touch : Operation → Touch
-touch (Enrol pages allowance share list asf) = frames
+touch (Enrol x) = frames
 touch (Create name pages) = frames
 touch (Destroy id) = tables
 touch (Permit id guest right) = tables
@@ -75,7 +75,7 @@ record Touches (t : Touch) (s : State) (d : Decision) : Type 0 where
 module _ (s : State) (c : Caller) where
   performed-touches : (k : Operation) (n : ℕ) (d : Decision) → Performed s c k n d → Touches (touch k) s d
   unfolding Performed
-  performed-touches (Enrol pages allowance share list asf) n d p = rw (p .is) (record { effect = tt; stays = tt })
+  performed-touches (Enrol x) n d p = rw (p .is) (record { effect = tt; stays = tt })
   performed-touches (Create name pages) n d p = rw (p .made .is) (record { effect = tt; stays = tt })
   performed-touches (Destroy id) n d p = rw (p .is) (record { effect = tt; stays = tt })
   performed-touches (Permit id guest right) n d p = rw (p .is) (record { effect = tt; stays = tt })
@@ -197,7 +197,7 @@ module _ (s : State) (c : Caller) (k : Operation) where
 
 pub any-length : (s : State) (c : Caller) (k : Operation) (n : ℕ) → Unmoving (touch k) → judge s (callOf c k) n ≡ judge s (callOf c k) 0
 unfolding judge arguments perform
-any-length s c (Enrol pages allowance share list asf) n u = refl
+any-length s c (Enrol x) n u = refl
 any-length s c (Create name pages) n u = refl
 any-length s c (Destroy id) n u = refl
 any-length s c (Permit id guest right) n u = refl

@@ -17,14 +17,8 @@ pub fn serve(s: State, scratch: &mut [u8], call: Call, buffer: &mut [u8]) -> Rep
     let caller = call.caller;
     let operation = call.operation;
     match operation {
-        Operation::Enrol {
-            pages,
-            allowance,
-            share,
-            list,
-            asf,
-        } => making::enrol(s, scratch, caller, pages, allowance, share, list, asf),
-        Operation::Create { name, pages } => making::create(s, scratch, caller, name, pages),
+        Operation::Enrol { settings } => enrolling::enrol(s, scratch, caller, settings),
+        Operation::Create { name, pages } => creating::create(s, scratch, caller, name, pages),
         Operation::Destroy { id } => withdrawing::destroy(s, caller, id),
         Operation::Permit { id, guest, right } => rights::permit(s, caller, id, guest, right),
         Operation::Isolate { id } => withdrawing::isolate(s, caller, id),

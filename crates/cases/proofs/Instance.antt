@@ -135,7 +135,7 @@ pub varied : StoresVaried 3 (holding zeros) first second
 unfolding StoresVaried
 varied = (
   record { call = refl; long = refl; same = λ _. refl },
-  (record { call = refl; long = refl; same = λ away. absurd (away (tt, change-reaches)) }, same-calls 3 others _),
+  (record { call = refl; long = refl; same = λ away. absurd (away (refl, change-reaches)) }, same-calls 3 others _),
 )
 
 -- so it speaks of these two runs

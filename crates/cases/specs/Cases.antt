@@ -13,6 +13,7 @@ use Rattle.model.specs.declared.Right.the-variants.{Read, Write}
 use Rattle.model.specs.declared.Standing.the-variants.{Valid}
 use Rattle.model.specs.declared.State.{State}
 use Rattle.model.specs.Answers.{number, value}
+use Rattle.model.specs.Arguments.{settingsOf}
 use Rattle.model.specs.Calls.{decide}
 use Rattle.model.specs.Decision.{after}
 use Rattle.model.specs.Fresh.{emptyTables}
@@ -41,7 +42,7 @@ passes s (t ∷ ts) =
 
 -- guest 1 enrols with one page and a list of L entries, adds its own space, and loads the token t into register 1
 abbrev pub holding : (list : ℕ) → Trial
-holding l = trial (Enrol 1 2 1 l 1) 0 0 1
+holding l = trial (Enrol (settingsOf 1 2 1 l 1)) 0 0 1
 
 abbrev pub withToken : (list token : ℕ) → List Trial → List Trial
 withToken l t more =

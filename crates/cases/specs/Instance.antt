@@ -14,6 +14,7 @@ use Rattle.model.specs.declared.Space.{Space}
 use Rattle.model.specs.declared.Standing.the-variants.{Valid}
 use Rattle.model.specs.declared.State.{State}
 use Rattle.model.specs.Answers.{number, value}
+use Rattle.model.specs.Arguments.{settingsOf}
 use Rattle.model.specs.Fresh.{emptyTables}
 use Rattle.model.specs.Names.{baseName}
 use Rattle.model.specs.Step.{Machine, Issue, Outcome}
@@ -137,8 +138,8 @@ fresh = record { tables = emptyTables 8 1; scratch = blank }
 
 abbrev pub lines : List Issue
 lines =
-    issue 1 (Enrol 2 2 1 4 1) []
-    ∷ issue 2 (Enrol 1 1 0 2 1) []
+    issue 1 (Enrol (settingsOf 2 2 1 4 1)) []
+    ∷ issue 2 (Enrol (settingsOf 1 1 0 2 1)) []
     ∷ issue 1 (Create temp 1) []
     ∷ issue 1 (Permit 3 2 Read) []
     ∷ issue 2 (Add 3 Read) []

@@ -6,10 +6,22 @@ use model::Answer;
 use model::Caller;
 use model::Reply;
 use model::Right;
+use model::Settings;
 use model::State;
 
 fn guest(g: u32) -> Caller {
     Caller { guest: g }
+}
+
+// The settings of a guest with a primary space alone.
+fn alone(pages: u32) -> Settings {
+    Settings {
+        pages: pages,
+        allowance: 0,
+        share: 0,
+        list: 1,
+        asf: 0,
+    }
 }
 
 fn print(n: u32) {
@@ -47,7 +59,7 @@ fn number_of(r: Reply) {
 fn enrol_with(s: State, room: usize) {
     let mut scratch = [0u8; 32769];
     if room <= 32769 {
-        number_of(spaces::enrol(s, &mut scratch[0..room], guest(3), 1, 0, 0, 1, 0));
+        number_of(spaces::enrol(s, &mut scratch[0..room], guest(3), alone(1)));
     }
 }
 
@@ -148,7 +160,7 @@ fn slots_used() {
     let s = states::full();
     told_reply(
         b"32 spaces, ENROL:",
-        spaces::enrol(s, &mut scratch, guest(3), 1, 0, 0, 1, 0),
+        spaces::enrol(s, &mut scratch, guest(3), alone(1)),
     );
     told_reply(
         b"32 spaces, CREATE:",
@@ -176,11 +188,11 @@ fn identifications() {
     );
     told_reply(
         b"next identification 65536, ENROL:",
-        spaces::enrol(s, &mut scratch, guest(3), 1, 0, 0, 1, 0),
+        spaces::enrol(s, &mut scratch, guest(3), alone(1)),
     );
     told_reply(
         b"next identification 65536, no run of 8 frames, ENROL:",
-        spaces::enrol(s, &mut scratch, guest(3), 8, 0, 0, 1, 0),
+        spaces::enrol(s, &mut scratch, guest(3), alone(8)),
     );
 }
 
@@ -261,16 +273,14 @@ fn buffers() {
 
 // 512 frames, all of one space: the first and the last byte, and the first beyond.
 fn largest(scratch: &mut [u8; 2097152]) {
-    let r = spaces::enrol(
-        spaces::fresh(512).state,
-        scratch,
-        guest(8),
-        512,
-        31,
-        1,
-        30,
-        1,
-    );
+    let most = Settings {
+        pages: 512,
+        allowance: 31,
+        share: 1,
+        list: 30,
+        asf: 1,
+    };
+    let r = spaces::enrol(spaces::fresh(512).state, scratch, guest(8), most);
     told_reply(b"512 frames, ENROL of 512 pages:", r);
     let s = r.state;
     told(
@@ -291,7 +301,7 @@ fn largest(scratch: &mut [u8; 2097152]) {
     );
     told_reply(
         b"512 frames, ENROL of 513 pages:",
-        spaces::enrol(s, scratch, guest(1), 513, 0, 0, 1, 0),
+        spaces::enrol(s, scratch, guest(1), alone(513)),
     );
 }
 

@@ -1,6 +1,7 @@
 // Sound states, made by calls of the public face.
 use model::Caller;
 use model::Right;
+use model::Settings;
 use model::State;
 
 pub(crate) fn temp() -> u64 {
@@ -23,7 +24,14 @@ fn enrolled(
     asf: u32,
 ) -> State {
     let caller = Caller { guest: guest };
-    let r = spaces::enrol(s, scratch, caller, 1, allowance, share, 4, asf);
+    let settings = Settings {
+        pages: 1,
+        allowance: allowance,
+        share: share,
+        list: 4,
+        asf: asf,
+    };
+    let r = spaces::enrol(s, scratch, caller, settings);
     r.state
 }
 

@@ -1,16 +1,10 @@
-// One entry of a list, its token, and one permit: what they allow, and how they change.
+// One entry of a list and its token: whether it is in use, and how it becomes unused.
 ghost use mathlib.Core.Path.{_≡_};
-ghost use lib.Dec.{eqb};
-ghost use Rattle.lists.specs.Choice.{either};
-ghost use Rattle.model.specs.Changes.{allows as allowed, raised, released};
+ghost use Rattle.model.specs.Changes.{released};
 ghost use Rattle.model.specs.Searches.{isUnused};
 ghost use Rattle.model.specs.Tokens.{malformed};
 ghost use Rattle.entries.specs.Assigned.{assignedTo};
 use model::Entry;
-use model::Grant;
-use model::Permit;
-use model::Right;
-use model::Space;
 use model::Standing;
 
 pub fn is_unused(e: Entry) -> bool
@@ -66,47 +60,4 @@ pub fn is_assigned(e: Entry, list: u8, token: u32) -> bool
         return false;
     }
     e.sequence as u32 == token / 65536
-}
-
-// Write includes read.
-pub fn allows(g: Grant, r: Right) -> bool
-    ensures { λ b. ⌜ b ≡ allowed g r ⌝ }
-{
-    match g {
-        Grant::Nothing => false,
-        Grant::Reading => match r {
-            Right::Read => true,
-            Right::Write => false,
-        },
-        Grant::Writing => true,
-    }
-}
-
-// Whether a guest owns a space, or has a permit for it that allows the right.
-pub fn is_entitled(x: Space, p: Permit, guest: u32, right: Right) -> bool
-    ensures { λ r. ⌜ r ≡ either (eqb (x .owner) guest) (allowed (p .grant) right) ⌝ }
-{
-    let owner = x.owner as u32;
-    if owner == guest {
-        return true;
-    }
-    let grant = p.grant;
-    allows(grant, right)
-}
-
-// The greater of what was permitted and the right that is given now.
-pub fn raise(g: Grant, r: Right) -> Grant
-    ensures { λ x. ⌜ x ≡ raised g r ⌝ }
-{
-    match g {
-        Grant::Nothing => match r {
-            Right::Read => Grant::Reading,
-            Right::Write => Grant::Writing,
-        },
-        Grant::Reading => match r {
-            Right::Read => Grant::Reading,
-            Right::Write => Grant::Writing,
-        },
-        Grant::Writing => Grant::Writing,
-    }
 }

@@ -1,38 +1,34 @@
 -- The second half of demand 3. What a fetch or store reaches is what the record tells of its token, and what the record tells
 -- has its ground in earlier calls. Assumes nothing.
 use Prim.Native.Nat.{ℕ, _<_}
-use mathlib.Core.Bool.{Bool, true, false}
+use mathlib.Core.Bool.{true}
 use mathlib.Core.List.{List, []}
 use mathlib.Core.Logic.{_≢_, _⊎_, inl, inr}
 use mathlib.Core.Path.{_≡_, refl, sym, ap, _∙_}
 use native.Mathlib.Decide.{ℕ-discrete}
 use native.Mathlib.Omega.{arith}
-use lib.Dec.{leb}
 use lib.ListN.{length}
 use borrow.Author.Tests.{eq-eqb, ne-eqb, leb-true}
-use Rattle.lists.specs.Choice.{choose}
 use Rattle.lists.proofs.Choice.{true-false, yes!, no!, choose-elim}
-use Rattle.model.specs.declared.Operation.{Operation}
-use Rattle.model.specs.declared.Operation.the-variants.{Enrol, Create, Destroy, Permit, Isolate, Query, Add, Remove, Load, Mode, Fetch, Store, Reset}
 use Rattle.model.specs.declared.Right.{Right}
 use Rattle.model.specs.declared.Right.the-variants.{Read, Write}
 use Rattle.model.specs.declared.Translation.the-variants.{Reached}
 use Rattle.model.specs.Arguments.{arguments}
-use Rattle.model.specs.Calls.{enrols, goodCaller, target, writes}
+use Rattle.model.specs.Calls.{target, writes}
+use Rattle.model.specs.Classes.{Moves, noBytes, fromSpace, toSpace, classOf, storesBytes}
 use Rattle.model.specs.Decision.{Effect, fetch, store}
 use Rattle.model.specs.Fresh.{emptyTables}
-use Rattle.model.specs.Granted.{Accessed, Performed, AllFit}
 use Rattle.model.specs.Searches.{enrolled}
 use Rattle.model.specs.Step.{Machine, Ready, Issue, decision, step, afterRun}
 use Rattle.model.specs.Tables.{spaceAt}
 use Rattle.model.specs.Tokens.{malformed}
+use Rattle.model.proofs.Moving.{Transferred, MovedAs, performed-moved}
 use Rattle.model.proofs.Refusals.{done-granted}
 use Rattle.isolation.specs.Agrees.{given}
 use Rattle.isolation.specs.Ground.{Did, ByEntry, Ground, Grounded}
 use Rattle.isolation.specs.History.{Event, Deed, recorded}
-use Rattle.isolation.specs.Reaches.{Through, Reaches}
+use Rattle.isolation.specs.Reaches.{MovesThrough, Reaches}
 use Rattle.isolation.specs.Recall.{space, misformed, homeIn, ownerIn, tokenIn, recall, usedIn}
-use Rattle.isolation.specs.TwoRuns.{IsStore}
 use Rattle.isolation.proofs.Reaching.{touches, reaches-one}
 use Rattle.isolation.proofs.Recall.{agreeing}
 use Rattle.isolation.proofs.Record.{Recorded}
@@ -40,50 +36,38 @@ use Rattle.isolation.proofs.RecordKept.{ready-run, recorded-all}
 use Rattle.isolation.proofs.RecordTells.{TokenDid, owner-did, home-did, token-did}
 
 -- a fetch or store through register r that was answered 0: where its token led
-record Used (m : Machine) (i : Issue) (k : Operation) (r : ℕ) : Type 0 where
+record Used (m : Machine) (i : Issue) (v : Moves) (r : ℕ) : Type 0 where
   caller : enrolled (m .tables .guests) (i .call .caller .guest) ≡ true
   small : r < 16
   slot : ℕ
   right : Right
   reached : target (m .tables) (i .call .caller) r ≡ Reached slot right
   reaches : Reaches m i (spaceAt (m .tables .spaces) slot .id)
-  write : IsStore k → right ≡ Write
+  write : storesBytes v ≡ true → right ≡ Write
 
 writes-write : (r : Right) → writes r ≡ true → r ≡ Write
 unfolding writes
 writes-write Read e = true-false refl (sym e)
 writes-write Write e = refl
 
-used-through : (m : Machine) (i : Issue) (k : Operation) (r a : ℕ) (storing : Bool) (f : ℕ → Effect) → enrolled (m .tables .guests) (i .call .caller .guest) ≡ true → leb r 15 ≡ true
-    → (p : Accessed (m .tables) (i .call .caller) r a (length (i .buffer)) storing f (decision m i)) → Reaches m i (spaceAt (m .tables .spaces) (p .slot) .id) → (IsStore k → storing ≡ true) → Used m i k r
-used-through m i k r a storing f on b p reaches stores = record {
-  caller = on;
-  small = omega (arith, leb-true r 15 b);
-  slot = p .slot;
-  right = p .right;
-  reached = p .reached;
+used-through : (m : Machine) (i : Issue) (v : Moves) (r a : ℕ) (f : ℕ → Effect) → (p : Transferred (m .tables) (i .call .caller) r a (length (i .buffer)) (storesBytes v) f (decision m i))
+    → Reaches m i (spaceAt (m .tables .spaces) (p .accessed .slot) .id) → Used m i v r
+used-through m i v r a f p reaches = record {
+  caller = p .caller;
+  small = omega (arith, leb-true r 15 (p .register));
+  slot = p .accessed .slot;
+  right = p .accessed .right;
+  reached = p .accessed .reached;
   reaches = reaches;
-  write = λ w. writes-write (p .right) (p .writable (stores w));
+  write = λ w. writes-write (p .accessed .right) (p .accessed .writable w);
 }
 
-used-by : (m : Machine) → Ready m → (i : Issue) (k : Operation) (r : ℕ) → Through k r → goodCaller (m .tables) (i .call .caller) k ≡ true
-    → AllFit (arguments (m .tables .guests) (i .call .caller) k (length (i .buffer))) → Performed (m .tables) (i .call .caller) k (length (i .buffer)) (decision m i) → Used m i k r
-unfolding goodCaller enrols choose arguments AllFit Performed
-used-by m ready i (Enrol pages allowance share list asf) r t e fit p = absurd t
-used-by m ready i (Create name pages) r t e fit p = absurd t
-used-by m ready i (Destroy id) r t e fit p = absurd t
-used-by m ready i (Permit id guest right) r t e fit p = absurd t
-used-by m ready i (Isolate id) r t e fit p = absurd t
-used-by m ready i (Query owner name) r t e fit p = absurd t
-used-by m ready i (Add id right) r t e fit p = absurd t
-used-by m ready i (Remove token) r t e fit p = absurd t
-used-by m ready i (Load register value) r t e fit p = absurd t
-used-by m ready i (Mode k) r t e fit p = absurd t
-used-by m ready i (Fetch register address) r t e fit p =
-    rw (← t) (used-through m i (Fetch register address) register address false (λ u. fetch u address) e (fit .0) p (rw (p .is) at (touches m ready i)) (λ w. absurd w))
-used-by m ready i (Store register address) r t e fit p =
-    rw (← t) (used-through m i (Store register address) register address true (λ u. store u address) e (fit .0) p (rw (p .is) at (touches m ready i)) (λ _. refl))
-used-by m ready i Reset r t e fit p = absurd t
+used-by : (m : Machine) → Ready m → (i : Issue) (v : Moves) (r : ℕ) → MovesThrough v r → MovedAs (m .tables) (i .call .caller) (length (i .buffer)) v (decision m i) → Used m i v r
+used-by m ready i noBytes r t p = absurd t
+used-by m ready i (fromSpace register address) r t p =
+    rw (← t) (used-through m i (fromSpace register address) register address (λ u. fetch u address) p (rw (p .accessed .is) at (touches m ready i)))
+used-by m ready i (toSpace register address) r t p =
+    rw (← t) (used-through m i (toSpace register address) register address (λ u. store u address) p (rw (p .accessed .is) at (touches m ready i)))
 
 -- token 0 gives the guest's home, any other what its last ADD gave
 recall-zero : (h : List Event) (g t x : ℕ) (r : Right) → t ≡ 0 → recall h g t ≡ space x r → homeIn h g ≡ x
@@ -108,10 +92,11 @@ ground m i h ready rec id reach = record { register = r; through = reach .throug
     g : ℕ
     g = i .call .caller .guest
 
-    used : Used m i (i .call .operation) r
+    used : Used m i (classOf (i .call .operation) .moves) r
     used =
         let done = done-granted (m .tables) (length (m .scratch)) (i .call) (length (i .buffer)) (reach .done) in
-        used-by m ready i (i .call .operation) r (reach .through) (done .caller) (done .arguments) (done .performed)
+        used-by m ready i (classOf (i .call .operation) .moves) r (reach .through)
+        (performed-moved (m .tables) (i .call .caller) (i .call .operation) (length (i .buffer)) (decision m i) (done .caller) (done .arguments) (done .performed))
 
     not-zero : id ≢ 0
     not-zero z = omega (arith, reach .live, reach .space)

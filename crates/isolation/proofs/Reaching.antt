@@ -5,16 +5,14 @@ use mathlib.Core.Bool.{Bool, true, false}
 use mathlib.Core.Logic.{_⊎_, inl, inr}
 use mathlib.Core.Path.{_≡_, refl, sym, ap, _∙_}
 use lib.ListN.{length}
-use Rattle.lists.specs.Choice.{choose}
-use Rattle.model.specs.declared.Operation.{Operation}
-use Rattle.model.specs.declared.Operation.the-variants.{Enrol, Create, Destroy, Permit, Isolate, Query, Add, Remove, Load, Mode, Fetch, Store, Reset}
 use Rattle.model.specs.declared.Right.{Right}
 use Rattle.model.specs.declared.Standing.the-variants.{Valid}
 use Rattle.model.specs.declared.State.{State}
 use Rattle.model.specs.Answers.{number}
-use Rattle.model.specs.Calls.{goodCaller, enrols, target}
+use Rattle.model.specs.Calls.{target}
+use Rattle.model.specs.Classes.{Moves, noBytes, fromSpace, toSpace, classOf}
 use Rattle.model.specs.Decision.{Decision, after, Effect, none, clear, fetch, store}
-use Rattle.model.specs.Granted.{Accessed, Performed, Granted}
+use Rattle.model.specs.Granted.{Accessed, Granted}
 use Rattle.model.specs.Names.{baseName}
 use Rattle.model.specs.Searches.{enrolled, primarySlot}
 use Rattle.model.specs.Sound.{Live, Sound}
@@ -22,11 +20,12 @@ use Rattle.model.specs.Step.{Machine, Ready, Issue, decision, step}
 use Rattle.model.specs.Tables.{spaceAt}
 use Rattle.model.specs.Through.{ThroughPrimary, ThroughEntry}
 use Rattle.model.specs.Verdict.{row, Verdict, refused, granted}
+use Rattle.model.proofs.Moving.{Unmoved, MovedAs, performed-moved}
 use Rattle.model.proofs.Reached.{reached, reached-live}
 use Rattle.model.proofs.Refusals.{performed-number}
 use Rattle.model.proofs.Searches.{primary-lt, named-found}
 use Rattle.model.proofs.Verdict.{verdict}
-use Rattle.isolation.specs.Reaches.{Through, Named, Reaches}
+use Rattle.isolation.specs.Reaches.{MovesThrough, Through, Named, Reaches}
 
 -- what translation reached is named by the token used
 named-by : (s : State) → Sound s → (g t u : ℕ) (r : Right) → enrolled (s .guests) g ≡ true → ThroughPrimary s g t u r ⊎ ThroughEntry s g t u r → Named s g t u
@@ -43,25 +42,15 @@ named-one s ok g t u v lu lv (inl p) (inr q) = absurd (q .0 (p .0))
 named-one s ok g t u v lu lv (inr p) (inl q) = absurd (p .0 (q .0))
 named-one s ok g t u v lu lv (inr p) (inr q) = let e : Valid u (p .1 .right) ≡ Valid v (q .1 .right) = sym (p .1 .valid) ∙ q .1 .valid in cc
 
-one-register : (k : Operation) (r q : ℕ) → Through k r → Through k q → r ≡ q
-one-register (Enrol pages allowance share list asf) r q a b = absurd a
-one-register (Create name pages) r q a b = absurd a
-one-register (Destroy id) r q a b = absurd a
-one-register (Permit id guest right) r q a b = absurd a
-one-register (Isolate id) r q a b = absurd a
-one-register (Query owner name) r q a b = absurd a
-one-register (Add id right) r q a b = absurd a
-one-register (Remove token) r q a b = absurd a
-one-register (Load register value) r q a b = absurd a
-one-register (Mode m) r q a b = absurd a
-one-register (Fetch register address) r q a b = sym a ∙ b
-one-register (Store register address) r q a b = sym a ∙ b
-one-register Reset r q a b = absurd a
+one-register : (v : Moves) (r q : ℕ) → MovesThrough v r → MovesThrough v q → r ≡ q
+one-register noBytes r q a b = absurd a
+one-register (fromSpace register address) r q a b = sym a ∙ b
+one-register (toSpace register address) r q a b = sym a ∙ b
 
 -- one live slot
 pub slot-one : (m : Machine) → Ready m → (i : Issue) (x y : ℕ) → (a : Reaches m i x) (b : Reaches m i y) → a .slot ≡ b .slot
 slot-one m ready i x y a b =
-    let r : a .register ≡ b .register = one-register (i .call .operation) (a .register) (b .register) (a .through) (b .through) in
+    let r : a .register ≡ b .register = one-register (classOf (i .call .operation) .moves) (a .register) (b .register) (a .through) (b .through) in
     named-one (m .tables) (ready .sound) _ _ (a .slot) (b .slot) (a .live) (b .live) (a .named) (rw (← r) at (b .named))
 
 pub reaches-one : (m : Machine) → Ready m → (i : Issue) (x y : ℕ) → Reaches m i x → Reaches m i y → x ≡ y
@@ -95,22 +84,17 @@ module _ (m : Machine) (ready : Ready m) (i : Issue) (d : Decision) (done : numb
   unfolding accessed
   accessed-slot r a storing f en t x = refl
 
-  -- a done call, by its operation
-  touched : (k : Operation) → i .call .operation ≡ k → goodCaller (m .tables) (i .call .caller) k ≡ true → Performed (m .tables) (i .call .caller) k (length (i .buffer)) d → Touches m i (after (m .tables) d) (d .effect)
-  unfolding Performed goodCaller enrols choose
-  touched (Enrol pages allowance share list asf) e en p = rw (p .is) tt
-  touched (Create name pages) e en p = rw (p .made .is) tt
-  touched (Destroy id) e en p = rw (p .is) tt
-  touched (Permit id guest right) e en p = rw (p .is) tt
-  touched (Isolate id) e en p = rw (p .is) tt
-  touched (Query owner name) e en p = rw (p .is) tt
-  touched (Add id right) e en p = rw (p .is) tt
-  touched (Remove token) e en p = rw (p .is) tt
-  touched (Load register value) e en p = rw (p .is) tt
-  touched (Mode n) e en p = rw (p .is) tt
-  touched (Fetch register address) e en p = rw (p .is) (accessed register address false (λ u. fetch u address) en (rw e refl) p)
-  touched (Store register address) e en p = rw (p .is) (accessed register address true (λ u. store u address) en (rw e refl) p)
-  touched Reset e en p = rw (p .is) tt
+  -- a done call, by what it moves
+  touched : (v : Moves) → classOf (i .call .operation) .moves ≡ v → MovedAs (m .tables) (i .call .caller) (length (i .buffer)) v d → Touches m i (after (m .tables) d) (d .effect)
+  touched noBytes e p = unmoved (d .effect) p
+    where
+      unmoved : (f : Effect) → Unmoved f → Touches m i (after (m .tables) d) f
+      unmoved none p = tt
+      unmoved (clear fs) p = tt
+      unmoved (fetch u a) p = absurd p
+      unmoved (store u a) p = absurd p
+  touched (fromSpace register address) e p = rw (p .accessed .is) (accessed register address false (λ u. fetch u address) (p .caller) (rw e refl) (p .accessed))
+  touched (toSpace register address) e p = rw (p .accessed .is) (accessed register address true (λ u. store u address) (p .caller) (rw e refl) (p .accessed))
 
 pub touches : (m : Machine) → Ready m → (i : Issue) → Touches m i (after (m .tables) (decision m i)) (decision m i .effect)
 unfolding step
@@ -120,4 +104,4 @@ touches m ready i = go (verdict (m .tables) (length (m .scratch)) (i .call) (len
     go (refused r) = rw (r .is) tt
     go (granted g) =
         touched m ready i (decision m i) (performed-number (m .tables) (i .call .caller) (i .call .operation) (length (i .buffer)) (decision m i) (g .performed))
-        (i .call .operation) refl (g .caller) (g .performed)
+        (classOf (i .call .operation) .moves) refl (performed-moved (m .tables) (i .call .caller) (i .call .operation) (length (i .buffer)) (decision m i) (g .caller) (g .arguments) (g .performed))

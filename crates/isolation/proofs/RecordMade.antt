@@ -14,6 +14,7 @@ use Rattle.lists.proofs.Maps.{at-set}
 use Rattle.model.specs.declared.Change.{Change}
 use Rattle.model.specs.declared.Grant.the-variants.{Nothing}
 use Rattle.model.specs.declared.Guest.{Guest}
+use Rattle.model.specs.declared.Settings.{Settings}
 use Rattle.model.specs.declared.Space.{Space}
 use Rattle.model.specs.declared.State.{State}
 use Rattle.model.specs.Answers.{value}
@@ -80,11 +81,11 @@ module _ (s : State) (m : Memory) (ok : Sound s) (rem : Remembers s m) where
       none h i = nothing-allowed _ (not-so _ (λ a. omega (arith, free, ok .permits .ground j h (done .slot) i a .live)))
 
   -- ENROL: no space had that owner
-  pub enrol-told : (g pages allowance share list asf : ℕ) (d : Decision) → guestAt (s .guests) g .enrolled ≡ false
-      → Made s pages (enrolling s g pages allowance share list asf) d → Remembers (after s d) (told (Deed.enrolled g (value (d .answer))) m)
+  pub enrol-told : (g : ℕ) (x : Settings) (d : Decision) → guestAt (s .guests) g .enrolled ≡ false
+      → Made s (x .pages) (enrolling s g x) d → Remembers (after s d) (told (Deed.enrolled g (value (d .answer))) m)
   unfolding newGuest newSpace value ownerBy homeBy grantBy tokenBy modeBy loadBy
-  enrol-told g pages allowance share list asf d out done = rw (done .is) (rw (done .is) at
-      (made-told _ g baseName pages _ d (λ h. choose (eqb g h) (s .next) (m .home h)) refl done (λ _. yes! _ _ (eq-eqb g g refl))
+  enrol-told g x d out done = rw (done .is) (rw (done .is) at
+      (made-told _ g baseName (x .pages) _ d (λ h. choose (eqb g h) (s .next) (m .home h)) refl done (λ _. yes! _ _ (eq-eqb g g refl))
       (λ u l. no! _ _ (ne-eqb g _ (λ e. true-false (enrolled-is (s .guests) _ (ok .spaces .owner u l)) (rw (← e) out))))))
 
   -- CREATE: the name is not BASE, for the caller has a space of that name

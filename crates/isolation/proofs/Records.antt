@@ -1,5 +1,6 @@
 -- Instances of the second half: records with a ground for the next fetch or store, and records with none. Assumes nothing.
 use Prim.Native.Nat.{ℕ, _+_, _*_, _%_, _≤_}
+use mathlib.Core.Bool.{true}
 use mathlib.Core.List.{List, [], _∷_, _++_, append-assoc}
 use mathlib.Core.Logic.{_≢_, _⊎_, inl, inr, ⊎-elim}
 use mathlib.Core.Path.{_≡_, refl, sym, ap, _∙_}
@@ -7,17 +8,18 @@ use native.Mathlib.Decide.{ℕ-discrete}
 use native.Mathlib.Omega.{arith}
 use lib.ListN.{take}
 use Rattle.lists.specs.Choice.{choose, both}
+use Rattle.lists.proofs.Choice.{true-false}
 use Rattle.model.specs.declared.Operation.{Operation}
 use Rattle.model.specs.declared.Operation.the-variants.{Isolate, Add, Remove, Load, Fetch, Store, Reset}
 use Rattle.model.specs.declared.Right.{Right}
 use Rattle.model.specs.declared.Right.the-variants.{Read, Write}
+use Rattle.model.specs.Classes.{isStore}
 use Rattle.model.specs.Step.{Issue}
 use Rattle.isolation.specs.Ground.{Never, Did, Owns, AtLeast, GivesUp, Withdraws, PermittedBefore, ByEntry, Ground}
 use Rattle.isolation.specs.History.{Event, Deed, nothing, enrolled, created, destroyed, permitted, isolated, added, removed, loaded, switched, reset, deedDone, deedOf, deed}
 use Rattle.isolation.specs.Records.{issue, done, founding, permitting, session, writing, owning, fetch, store}
 use Rattle.isolation.specs.Reaches.{Through}
 use Rattle.isolation.specs.Recall.{modeBy, modeIn, loadBy, loadIn, usedIn}
-use Rattle.isolation.specs.TwoRuns.{IsStore}
 use Rattle.isolation.proofs.RecordTells.{did-now, did-more}
 
 -- whoever unfolds this unfolds all by which a record tells its deeds and the token used
@@ -69,7 +71,7 @@ withdraws-code : (o x : ℕ) (d : Deed) → Withdraws o x d → (1 ≤ code d) �
 withdraws-code o x d = ⊎-elim (λ (p : (g : ℕ) × (d ≡ isolated g x)). omega (arith, ap code (p .1))) (λ q. omega (arith, ap code q))
 
 -- an ADD with quiet calls since
-entry : (l h : List Event) (i : Issue) (r : Right) (o : ℕ) → Quiet l → Did h (created o 3) → (IsStore (i .call .operation) → r ≡ Write)
+entry : (l h : List Event) (i : Issue) (r : Right) (o : ℕ) → Quiet l → Did h (created o 3) → (isStore (i .call .operation) ≡ true → r ≡ Write)
     → (o ≡ i .call .caller .guest) ⊎ PermittedBefore [] h o (i .call .caller .guest) 3 r
     → ByEntry (l ++ (done (i .call .caller .guest) (Add 3 r) 2 ∷ h)) (i .call .operation) (i .call .caller .guest) 2 3
 unfolding telling
@@ -98,7 +100,7 @@ unfolding telling
 by-permit = record {
   register = 5;
   through = refl;
-  way = inr ((λ e. omega arith), entry (take 3 session) (permitting Read) (fetch 2) Read 1 (omega arith) (did-more _ _ _ made) (λ w. absurd w) (inr (permit Read tt)));
+  way = inr ((λ e. omega arith), entry (take 3 session) (permitting Read) (fetch 2) Read 1 (omega arith) (did-more _ _ _ made) (λ w. true-false w refl) (inr (permit Read tt)));
 }
 
 -- (ii) the owner's own ADD
@@ -224,7 +226,7 @@ pub none-reading : Ground session (store 2) 3 → ⊥
 unfolding telling
 none-reading g =
     let b = by session (Store 5 0) (λ r q. q) refl g in
-    never-did (added 2 3 Write 2) session (omega arith) (rw (b .write tt) at (b .did))
+    never-did (added 2 3 Write 2) session (omega arith) (rw (b .write refl) at (b .did))
 
 -- (viii) a REMOVE of the token since
 pub none-removed : Ground (done 2 (Remove 2) 0 ∷ session) (fetch 2) 3 → ⊥
@@ -249,7 +251,7 @@ none-enough g =
     let h = take 3 writing ++ permitting Read in
     let b = by h (Store 5 0) (λ r q. q) refl g in
     let p = permission h (Store 5 0) (λ r q. q) refl g (λ o ne. omega arith) in
-    never-did (permitted 1 3 2 Write) h (omega arith) (rw (at-least (p .0) (b .right) (p .1) (b .write tt)) at (p .2 .0))
+    never-did (permitted 1 3 2 Write) h (omega arith) (rw (at-least (p .0) (b .right) (p .1) (b .write refl)) at (p .2 .0))
   where
     at-least : (r q : Right) → AtLeast r q → q ≡ Write → r ≡ Write
     at-least Read Read a e = e

@@ -3,18 +3,19 @@
 -- no reset by the owner answered 0 since that permit." The ground that the record has for a fetch or store, in the words of
 -- "Demand 3, word by word". A record has its latest call first.
 use Prim.Native.Nat.{ℕ, _<_}
+use mathlib.Core.Bool.{true}
 use mathlib.Core.List.{List, [], _∷_, _++_}
 use mathlib.Core.Logic.{_⊎_}
 use mathlib.Core.Path.{_≡_}
 use Rattle.model.specs.declared.Operation.{Operation}
 use Rattle.model.specs.declared.Right.{Right}
 use Rattle.model.specs.declared.Right.the-variants.{Read, Write}
+use Rattle.model.specs.Classes.{isStore}
 use Rattle.model.specs.Fresh.{emptyTables}
 use Rattle.model.specs.Step.{Ready, Issue, afterRun}
 use Rattle.isolation.specs.History.{Event, Deed, enrolled, created, permitted, isolated, added, removed, reset, deed, recorded}
 use Rattle.isolation.specs.Reaches.{Through, Reaches}
 use Rattle.isolation.specs.Recall.{usedIn}
-use Rattle.isolation.specs.TwoRuns.{IsStore}
 
 -- no call of the record did a deed of which P holds
 abbrev pub Never : (Deed → Type 0) → List Event → Type 0
@@ -62,7 +63,7 @@ pub record ByEntry (h : List Event) (operation : Operation) (guest token id : �
   pub right : Right
   pub did : Did h (added guest id right token)
   pub last : Never (GivesUp guest token) (did .later)
-  pub write : IsStore operation → right ≡ Write
+  pub write : isStore operation ≡ true → right ≡ Write
   pub owner : ℕ
   pub owns : Owns h owner id
   pub ground : (owner ≡ guest) ⊎ PermittedBefore (did .later) (did .earlier) owner guest id right

@@ -38,7 +38,7 @@ pub data Deed : Type 0 where
   reset : (guest : ℕ) → Deed
 
 unfoldable pub deedDone : Caller → Operation → (value : ℕ) → Deed
-deedDone c (Enrol pages allowance share list asf) v = enrolled (c .guest) v
+deedDone c (Enrol x) v = enrolled (c .guest) v
 deedDone c (Create name pages) v = created (c .guest) v
 deedDone c (Destroy id) v = destroyed (c .guest) id
 deedDone c (Permit id guest right) v = permitted (c .guest) id guest right

@@ -6,11 +6,11 @@ use mathlib.Core.Bool.{Bool, true}
 use mathlib.Core.Logic.{_⊎_}
 use mathlib.Core.Path.{_≡_}
 use Rattle.model.specs.declared.Operation.{Operation}
-use Rattle.model.specs.declared.Operation.the-variants.{Enrol, Create, Destroy, Permit, Isolate, Query, Add, Remove, Load, Mode, Fetch, Store, Reset}
 use Rattle.model.specs.declared.Right.{Right}
 use Rattle.model.specs.declared.Standing.the-variants.{Valid}
 use Rattle.model.specs.declared.State.{State}
 use Rattle.model.specs.Answers.{number}
+use Rattle.model.specs.Classes.{Moves, noBytes, fromSpace, toSpace, classOf}
 use Rattle.model.specs.Names.{baseName}
 use Rattle.model.specs.Sound.{Live}
 use Rattle.model.specs.Step.{Machine, Issue, step}
@@ -18,20 +18,13 @@ use Rattle.model.specs.Tables.{spaceAt, cpuAt, cpuPlace, entryAt}
 use Rattle.model.specs.Tokens.{tokenUsed, entryNumber}
 
 -- the call is a fetch or store through that register
+abbrev pub MovesThrough : Moves → (register : ℕ) → Type 0
+MovesThrough noBytes r = ⊥
+MovesThrough (fromSpace register address) r = register ≡ r
+MovesThrough (toSpace register address) r = register ≡ r
+
 abbrev pub Through : Operation → (register : ℕ) → Type 0
-Through (Enrol pages allowance share list asf) r = ⊥
-Through (Create name pages) r = ⊥
-Through (Destroy id) r = ⊥
-Through (Permit id guest right) r = ⊥
-Through (Isolate id) r = ⊥
-Through (Query owner name) r = ⊥
-Through (Add id right) r = ⊥
-Through (Remove token) r = ⊥
-Through (Load register value) r = ⊥
-Through (Mode m) r = ⊥
-Through (Fetch register address) r = register ≡ r
-Through (Store register address) r = register ≡ r
-Through Reset r = ⊥
+Through k r = MovesThrough (classOf k .moves) r
 
 -- the space in slot u is guest g's primary
 pub record Primary (s : State) (g u : ℕ) : Type 0 where

@@ -5,6 +5,7 @@ use Rattle.model.specs.declared.Operation.{Operation}
 use Rattle.model.specs.declared.Operation.the-variants.{Enrol, Create, Permit, Add, Load, Mode, Fetch, Store}
 use Rattle.model.specs.declared.Right.{Right}
 use Rattle.model.specs.declared.Right.the-variants.{Read, Write}
+use Rattle.model.specs.Arguments.{settingsOf}
 use Rattle.model.specs.Step.{Issue}
 use Rattle.isolation.specs.History.{Event}
 
@@ -25,7 +26,7 @@ done g o v = event g o 0 v
 
 -- ENROL 1, ENROL 2, CREATE 1 TEMP -> 3
 abbrev pub founding : List Event
-founding = done 1 (Create temp 1) 3 ∷ done 2 (Enrol 1 1 0 2 1) 2 ∷ done 1 (Enrol 2 2 1 4 1) 1 ∷ []
+founding = done 1 (Create temp 1) 3 ∷ done 2 (Enrol (settingsOf 1 1 0 2 1)) 2 ∷ done 1 (Enrol (settingsOf 2 2 1 4 1)) 1 ∷ []
 
 -- PERMIT 1 3 2 r
 abbrev pub permitting : Right → List Event

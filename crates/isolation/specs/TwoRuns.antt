@@ -7,10 +7,9 @@ use mathlib.Core.List.{List, [], _∷_}
 use mathlib.Core.Logic.{_≢_}
 use mathlib.Core.Path.{_≡_}
 use lib.ListN.{length, getD}
-use Rattle.model.specs.declared.Operation.{Operation}
-use Rattle.model.specs.declared.Operation.the-variants.{Enrol, Create, Destroy, Permit, Isolate, Query, Add, Remove, Load, Mode, Fetch, Store, Reset}
 use Rattle.model.specs.declared.State.{State}
 use Rattle.model.specs.Answers.{number, value}
+use Rattle.model.specs.Classes.{isStore}
 use Rattle.model.specs.Frames.{layout, placeOf, sizeOf, bytesOf}
 use Rattle.model.specs.Sound.{Live}
 use Rattle.model.specs.Step.{Machine, Ready, Issue, step}
@@ -67,22 +66,6 @@ TwoRuns = (X : ℕ → Bool) (ts : List Turn) (m₁ m₂ : Machine) → Ready m�
 -- included, and run the list twice; the runs may differ in the bytes first held in that space and in the data of stores that
 -- reach it (lengths kept), and in nothing else."
 
--- a store, by its call
-abbrev pub IsStore : Operation → Type 0
-IsStore (Enrol pages allowance share list asf) = ⊥
-IsStore (Create name pages) = ⊥
-IsStore (Destroy id) = ⊥
-IsStore (Permit id guest right) = ⊥
-IsStore (Isolate id) = ⊥
-IsStore (Query owner name) = ⊥
-IsStore (Add id right) = ⊥
-IsStore (Remove token) = ⊥
-IsStore (Load register value) = ⊥
-IsStore (Mode m) = ⊥
-IsStore (Fetch register address) = ⊥
-IsStore (Store register address) = Unit {0}
-IsStore Reset = ⊥
-
 -- scratch is equal at every byte outside that space, free frames included
 pub record OutsideSpace (s : State) (u : ℕ) (m₁ m₂ : List ℕ) : Type 0 where
   pub room : length m₁ ≡ length m₂
@@ -93,7 +76,7 @@ pub record OutsideSpace (s : State) (u : ℕ) (m₁ m₂ : List ℕ) : Type 0 wh
 pub record StoreMayDiffer (id : ℕ) (m : Machine) (i j : Issue) : Type 0 where
   pub call : i .call ≡ j .call
   pub long : length (j .buffer) ≡ length (i .buffer)
-  pub same : (IsStore (i .call .operation) × Reaches m i id → ⊥) → i .buffer ≡ j .buffer
+  pub same : ((isStore (i .call .operation) ≡ true) × Reaches m i id → ⊥) → i .buffer ≡ j .buffer
 
 unfoldable pub StoresVaried : (id : ℕ) → Machine → (first second : List Issue) → Type 0
 StoresVaried x m [] [] = Unit {0}

@@ -13,7 +13,7 @@ use Rattle.lists.specs.Choice.{choose}
 use Rattle.lists.proofs.Choice.{yes!, no!, true-false, both-left, both-right}
 use Rattle.model.specs.declared.Request.{Request}
 use Rattle.model.specs.declared.Request.the-variants.{NotRead}
-use Rattle.model.specs.Lines.{fields, is, hexDigits, hexField, hexBytes, number, hex, fieldOf, Values, values, unread, readFields, Form, forms, at, sameBytes, makeBy, readBy, readAll, readLine, isStore, stores, lengthOf, dataOf}
+use Rattle.model.specs.Lines.{fields, is, hexDigits, hexField, hexBytes, number, hex, fieldOf, Values, values, unread, readFields, Form, forms, at, sameBytes, makeBy, readBy, readAll, readLine, stores, lengthOf, dataOf}
 use Rattle.lines.specs.Fields.{later}
 use Rattle.lines.proofs.Cuts.{last-field}
 use Rattle.fields.proofs.Decoding.{bytes-length}
@@ -50,7 +50,7 @@ data Each : List Form → Type 0 where
   and : {f : Form} {fs : List Form} → Storing f → Each fs → Each (f ∷ fs)
 
 each : Each forms
-unfolding forms stores isStore lengthOf
+unfolding forms stores lengthOf
 each =
     and (never (λ v. refl)) (and (never (λ v. refl)) (and (never (λ v. refl)) (and (never (λ v. refl)) (and (never (λ v. refl)) (and (never (λ v. refl)) (and (never (λ v. refl))
     (and (never (λ v. refl)) (and (never (λ v. refl)) (and (never (λ v. refl)) (and (never (λ v. refl)) (and (never (λ v. refl)) (and (last refl (λ v. refl)) (and (never (λ v. refl)) none)))))))))))))

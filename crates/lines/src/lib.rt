@@ -14,6 +14,7 @@ use model::Caller;
 use model::Operation;
 use model::Request;
 use model::Right;
+use model::Settings;
 
 // The place of the first tab at or after `from`, or the line's length.
 fn field_end(line: &[u8], from: usize) -> usize
@@ -121,11 +122,13 @@ fn make(place: usize, v: [u64; 6]) -> Request
         1 => asked(
             a,
             Operation::Enrol {
-                pages: b,
-                allowance: c,
-                share: d,
-                list: e,
-                asf: f,
+                settings: Settings {
+                    pages: b,
+                    allowance: c,
+                    share: d,
+                    list: e,
+                    asf: f,
+                },
             },
             0,
         ),

@@ -1,3 +1,2 @@
 pub mod Clear
 pub mod Done
-pub mod Enrolled

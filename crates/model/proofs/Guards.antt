@@ -89,7 +89,7 @@ abbrev transferChecks : State → Caller → (register address buffer : ℕ) →
 transferChecks s c r a n storing = accessChecks s (c .guest) (tokenUsed (cpuAt (s .cpus) (cpuPlace c)) r) a n storing (target s c r)
 
 abbrev pub ownChecks : State → Caller → Operation → (buffer : ℕ) → List Check
-ownChecks s c (Enrol pages allowance share list asf) n = makingChecks s (c .guest) pages
+ownChecks s c (Enrol x) n = makingChecks s (c .guest) (x .pages)
 ownChecks s c (Create name pages) n =
     test 4 (leb 32 (slotNamed (s .spaces) (c .guest) name))
     ∷ test 8 (not (eqb (dataSpaces (s .spaces) (c .guest)) (guestAt (s .guests) (c .guest) .allowance)))
@@ -183,7 +183,7 @@ module _ (s : State) (g t a n : ℕ) (storing : Bool) (f : ℕ → Effect) where
 module _ (s : State) (c : Caller) where
   first-performed : (k : Operation) (n : ℕ) → number (perform s c k n .answer) ≡ firstFailed (ownChecks s c k n)
   unfolding perform enrol create making owning destroy permit isolate query add remove load mode fetching storing reset target number
-  first-performed (Enrol pages allowance share list asf) n = first _ SlotsUsed _ _ (first _ NoIdentification _ _ (first _ NoRun _ [] none-failed))
+  first-performed (Enrol x) n = first _ SlotsUsed _ _ (first _ NoIdentification _ _ (first _ NoRun _ [] none-failed))
   first-performed (Create name pages) n =
       first _ NameTaken _ _ (first _ AllowanceUsed _ _ (first _ SlotsUsed _ _ (first _ NoIdentification _ _ (first _ NoRun _ [] none-failed))))
   first-performed (Destroy id) n = first _ NoSpace _ _ (first _ NotOwner _ _ (first _ PrimarySpace _ [] none-failed))
@@ -206,8 +206,8 @@ answer-first s m k n =
 
 -- Answer 3: "an argument outside its limits", argument by argument in the paper's numbers.
 abbrev pub limitsOf : List Guest → Caller → Operation → (buffer : ℕ) → List (Type 0)
-limitsOf gs c (Enrol pages allowance share list asf) n =
-    ((1 ≤ pages) × (pages ≤ 512)) ∷ (allowance ≤ 31) ∷ (share ≤ 1) ∷ ((1 ≤ list) × (list ≤ 30)) ∷ (asf ≤ 1) ∷ []
+limitsOf gs c (Enrol x) n =
+    ((1 ≤ x .pages) × (x .pages ≤ 512)) ∷ (x .allowance ≤ 31) ∷ (x .share ≤ 1) ∷ ((1 ≤ x .list) × (x .list ≤ 30)) ∷ (x .asf ≤ 1) ∷ []
 limitsOf gs c (Create name pages) n = NameText name ∷ ((1 ≤ pages) × (pages ≤ 512)) ∷ []
 limitsOf gs c (Destroy id) n = []
 limitsOf gs c (Permit id guest right) n = ((enrolled gs guest ≡ true) × (guest ≢ c .guest)) ∷ []
@@ -231,8 +231,8 @@ d-pages n = d-both (d-le 1 n) (d-le n 512)
 
 limits-decided : (gs : List Guest) (c : Caller) (k : Operation) (n : ℕ) → Decided (arguments gs c k n) (limitsOf gs c k n)
 unfolding arguments
-limits-decided gs c (Enrol pages allowance share list asf) n =
-    more (d-pages pages) (more (d-le allowance 31) (more (d-le share 1) (more (d-both (d-le 1 list) (d-le list 30)) (more (d-le asf 1) none))))
+limits-decided gs c (Enrol x) n =
+    more (d-pages (x .pages)) (more (d-le (x .allowance) 31) (more (d-le (x .share) 1) (more (d-both (d-le 1 (x .list)) (d-le (x .list) 30)) (more (d-le (x .asf) 1) none))))
 limits-decided gs c (Create name pages) n = more (name-decides name) (more (d-pages pages) none)
 limits-decided gs c (Destroy id) n = none
 limits-decided gs c (Permit id guest right) n = more (d-both (d-is (enrolled gs guest)) (d-not (d-eq guest (c .guest)))) none

@@ -105,7 +105,7 @@ lawful-access s c r a n storing f d ok en within x =
 
 lawful-performed : (s : State) (c : Caller) (k : Operation) (n : ℕ) (d : Decision) → Sound s → goodCaller s c k ≡ true → Performed s c k n d → Lawful s n d
 unfolding Performed goodCaller enrols choose withdrawn resetTables
-lawful-performed s c (Enrol pages allowance share list asf) n d ok en p = lawful-made s _ (c .guest) baseName pages n d ok refl refl p
+lawful-performed s c (Enrol x) n d ok en p = lawful-made s _ (c .guest) baseName (x .pages) n d ok refl refl p
 lawful-performed s c (Create name pages) n d ok en p = lawful-made s _ (c .guest) name pages n d ok refl refl (p .made)
 lawful-performed s c (Destroy id) n d ok en p = rw (p .is) (lawful-withdrawn s _ (eqb (slotOf (s .spaces) id)) (eqb (slotOf (s .spaces) id)) 0 n refl refl)
 lawful-performed s c (Permit id guest right) n d ok en p = rw (p .is) (lawful-same s _ 0 n refl refl)

@@ -8,6 +8,7 @@ pub mod NewSpace
 pub mod Make
 pub mod Verdict
 pub mod Refusals
+pub mod Moving
 pub mod Reached
 pub mod Addresses
 pub mod Clearing
@@ -24,6 +25,7 @@ pub mod StoreFetch
 pub mod Rules
 pub mod Promise
 pub mod Types
+pub mod Classes
 pub mod Guards
 pub mod Effects
 pub mod SpaceEffects

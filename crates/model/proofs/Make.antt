@@ -7,7 +7,6 @@ use mathlib.Core.Logic.{_≢_}
 use mathlib.Core.Path.{_≡_, refl, ap, _∙_}
 use native.Mathlib.Decide.{ℕ-discrete}
 use native.Mathlib.Omega.{arith}
-use lib.Dec.{eqb}
 use lib.ListN.{length, set, length-set}
 use lib.Seq.{getD-set-same, getD-set-other}
 use Rattle.lists.specs.Choice.{both, either, choose}
@@ -15,6 +14,7 @@ use Rattle.lists.proofs.Choice.{true-false}
 use Rattle.model.specs.declared.Change.{Change}
 use Rattle.model.specs.declared.Cpu.{Cpu}
 use Rattle.model.specs.declared.Guest.{Guest}
+use Rattle.model.specs.declared.Settings.{Settings}
 use Rattle.model.specs.declared.Space.{Space}
 use Rattle.model.specs.declared.State.{State}
 use Rattle.model.specs.Calls.{newSpace, newGuest, enrolling}
@@ -228,14 +228,14 @@ unfolding goodName nameForm nameBytes nameRest blanks both either choose
 base-good = refl
 
 -- ENROL: the caller owned no space, since owners are enrolled; after the call it owns its primary alone.
-pub sound-enrol : (s : State) (g pages allowance share list asf : ℕ) (d : Decision) → Sound s → IsGuest g → guestAt (s .guests) g .enrolled ≡ false → 1 ≤ pages → allowance ≤ 31 → 1 ≤ list → list ≤ 30
-    → Made s pages (enrolling s g pages allowance share list asf) d → Sound (after s d)
+pub sound-enrol : (s : State) (g : ℕ) (x : Settings) (d : Decision) → Sound s → IsGuest g → guestAt (s .guests) g .enrolled ≡ false → 1 ≤ x .pages → x .allowance ≤ 31 → 1 ≤ x .list → x .list ≤ 30
+    → Made s (x .pages) (enrolling s g x) d → Sound (after s d)
 unfolding newGuest newSpace
-sound-enrol s g pages allowance share list asf d ok i out pos small low high m =
-    sound-made s hs g baseName pages _ d ok refl m keeps caller pos base-good (λ u l o _. owns-none u l o)
+sound-enrol s g x d ok i out pos small low high m =
+    sound-made s hs g baseName (x .pages) _ d ok refl m keeps caller pos base-good (λ u l o _. owns-none u l o)
   where
     y : Guest
-    y = record { enrolled = true; allowance = allowance; share = eqb share 1; list = list; asf = eqb asf 1 }
+    y = newGuest x
 
     hs : List Guest
     hs = set (s .guests) (guestPlace g) y
@@ -261,12 +261,12 @@ sound-enrol s g pages allowance share list asf d ok i out pos small low high m =
       list = omega (arith, ap (λ (z : Guest). z .list) (ok .guests .absent g i out));
     }
 
-    counts : (primaries (spacesAfter s g baseName pages) g ≡ primaries (s .spaces) g + 1) × (dataSpaces (spacesAfter s g baseName pages) g ≡ dataSpaces (s .spaces) g)
+    counts : (primaries (spacesAfter s g baseName (x .pages)) g ≡ primaries (s .spaces) g + 1) × (dataSpaces (spacesAfter s g baseName (x .pages)) g ≡ dataSpaces (s .spaces) g)
     counts =
-        primary-made (s .spaces) (freeSlot (s .spaces)) (newSpace s g baseName pages) (ok .spaces .len) (m .slot) (lowest-slot (s .spaces) .found (m .slot))
+        primary-made (s .spaces) (freeSlot (s .spaces)) (newSpace s g baseName (x .pages)) (ok .spaces .len) (m .slot) (lowest-slot (s .spaces) .found (m .slot))
         (ok .head .next-low) refl
 
-    caller : Settled (spacesAfter s g baseName pages) (guestAt hs g) (cpuAt (s .cpus) (guestPlace g)) g
+    caller : Settled (spacesAfter s g baseName (x .pages)) (guestAt hs g) (cpuAt (s .cpus) (guestPlace g)) g
     caller = rw mine (record {
       primary = omega (arith, counts .0, no-primaries (s .spaces) g owns-none);
       allowed = omega (arith, counts .1, no-data (s .spaces) g owns-none);

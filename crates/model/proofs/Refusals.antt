@@ -25,7 +25,7 @@ use Rattle.model.proofs.Verdict.{verdict}
 -- a done call's answer
 pub performed-number : (s : State) (c : Caller) (k : Operation) (n : ℕ) (d : Decision) → Performed s c k n d → number (d .answer) ≡ 0
 unfolding Performed number
-performed-number s c (Enrol pages allowance share list asf) n d p = rw (p .is) refl
+performed-number s c (Enrol x) n d p = rw (p .is) refl
 performed-number s c (Create name pages) n d p = rw (p .made .is) refl
 performed-number s c (Destroy id) n d p = rw (p .is) refl
 performed-number s c (Permit id guest right) n d p = rw (p .is) refl

@@ -45,10 +45,10 @@ may-enrol s g e =
 -- a done call, by what its checks 2 and 3 and its own have established
 performed-sound : (s : State) (c : Caller) (k : Operation) (n : ℕ) (d : Decision) → Sound s → goodCaller s c k ≡ true → AllFit (arguments (s .guests) c k n) → Performed s c k n d → Sound (after s d)
 unfolding goodCaller enrols choose arguments AllFit Performed
-performed-sound s c (Enrol pages allowance share list asf) n d ok e fit p =
+performed-sound s c (Enrol x) n d ok e fit p =
     let m = may-enrol s (c .guest) e in
-    sound-enrol s (c .guest) pages allowance share list asf d ok (m .0) (m .1) (leb-true 1 pages (both-left _ _ (fit .0))) (leb-true allowance 31 (fit .1 .0))
-    (leb-true 1 list (both-left _ _ (fit .1 .1 .1 .0))) (leb-true list 30 (both-right (leb 1 list) _ (fit .1 .1 .1 .0))) p
+    sound-enrol s (c .guest) x d ok (m .0) (m .1) (leb-true 1 (x .pages) (both-left _ _ (fit .0))) (leb-true (x .allowance) 31 (fit .1 .0))
+    (leb-true 1 (x .list) (both-left _ _ (fit .1 .1 .1 .0))) (leb-true (x .list) 30 (both-right (leb 1 (x .list)) _ (fit .1 .1 .1 .0))) p
 performed-sound s c (Create name pages) n d ok e fit p = sound-create s (c .guest) name pages d ok e (fit .0) (leb-true 1 pages (both-left _ _ (fit .1 .0))) p
 performed-sound s c (Destroy id) n d ok e fit p = sound-destroy s (c .guest) id d ok p
 performed-sound s c (Permit id guest right) n d ok e fit p =

@@ -23,6 +23,7 @@ use Rattle.model.specs.declared.Guest.{Guest}
 use Rattle.model.specs.declared.Operation.the-variants.{Enrol, Create, Destroy, Isolate, Reset}
 use Rattle.model.specs.declared.Permit.{Permit}
 use Rattle.model.specs.declared.Right.{Right}
+use Rattle.model.specs.declared.Settings.{Settings}
 use Rattle.model.specs.declared.Space.{Space}
 use Rattle.model.specs.declared.Standing.{Standing}
 use Rattle.model.specs.declared.Standing.the-variants.{Unused, Valid, Revoked}
@@ -63,9 +64,9 @@ pub record MakeEffect (s : State) (g k n : ℕ) (d : Decision) : Type 0 where
   pub value : value (d .answer) ≡ s .next
   pub zeros : (m b : List ℕ) → bytesOf (after s d) slot (scratchAfter (after s d) (d .effect) m b) ≡ replicate (n * 4096) 0
 
-pub record EnrolEffect (s : State) (g pages allowance share list asf : ℕ) (d : Decision) : Type 0 where
-  pub made : MakeEffect s g baseName pages d
-  pub guest : guestAt (after s d .guests) g ≡ record { enrolled = true; allowance = allowance; share = eqb share 1; list = list; asf = eqb asf 1 }
+pub record EnrolEffect (s : State) (g : ℕ) (x : Settings) (d : Decision) : Type 0 where
+  pub made : MakeEffect s g baseName (x .pages) d
+  pub guest : guestAt (after s d .guests) g ≡ record { enrolled = true; allowance = x .allowance; share = eqb (x .share) 1; list = x .list; asf = eqb (x .asf) 1 }
   pub others : (h : ℕ) → IsGuest h → h ≢ g → guestAt (after s d .guests) h ≡ guestAt (s .guests) h
   pub rest : after s d ≡ withNext (withSpaces (withGuests s (after s d .guests)) (after s d .spaces)) (after s d .next)
 
@@ -215,21 +216,21 @@ module _ (s : State) (m : ℕ) (c : Caller) (n : ℕ) where
   abbrev g : ℕ
   g = c .guest
 
-  enrolling : (pages allowance share list asf : ℕ) → Done s m c n (Enrol pages allowance share list asf) → IsGuest g
+  enrolling : (x : Settings) → Done s m c n (Enrol x) → IsGuest g
   unfolding goodCaller enrols choose
-  enrolling pages allowance share list asf done = may-enrol s g (all s m c n (Enrol pages allowance share list asf) done .caller) .0
+  enrolling x done = may-enrol s g (all s m c n (Enrol x) done .caller) .0
 
-  pub enrol-does : (pages allowance share list asf : ℕ) → Done s m c n (Enrol pages allowance share list asf) → EnrolEffect s g pages allowance share list asf (by s m c n (Enrol pages allowance share list asf))
+  pub enrol-does : (x : Settings) → Done s m c n (Enrol x) → EnrolEffect s g x (by s m c n (Enrol x))
   unfolding Performed newGuest newSpace
-  enrol-does pages allowance share list asf done =
-      let k = Enrol pages allowance share list asf in
+  enrol-does x done =
+      let k = Enrol x in
       let p = all s m c n k done .performed in
       let fine = ok s m c n k done in
-      let i = enrolling pages allowance share list asf done in
-      let y : Guest = record { enrolled = true; allowance = allowance; share = eqb share 1; list = list; asf = eqb asf 1 } in
+      let i = enrolling x done in
+      let y : Guest = newGuest x in
       let is : after s (by s m c n k) .guests ≡ set (s .guests) (guestPlace g) y = ap (λ (d : Decision). after s d .guests) (p .is) in
       record {
-        made = make-does s _ g baseName pages _ (by s m c n k) fine (sound-kept s m _ n fine) refl p;
+        made = make-does s _ g baseName (x .pages) _ (by s m c n k) fine (sound-kept s m _ n fine) refl p;
         guest = ap (λ gs. guestAt gs g) is ∙ getD-set-same (s .guests) (guestPlace g) y noGuest (omega (arith, fine .guests .len));
         others = λ h j ne. ap (λ gs. guestAt gs h) is ∙ getD-set-other (s .guests) (guestPlace g) (guestPlace h) y noGuest (λ e. ne (same-guest g h i j e));
         rest = rw (p .is) refl;

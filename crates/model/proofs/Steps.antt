@@ -19,7 +19,7 @@ use Rattle.model.proofs.Sound.{ready-to, length-scratchAfter}
 -- no call is answered 21: no row lists it
 no-row : (k : Operation) → listed 21 (row k) ≡ false
 unfolding row ownRow listed either
-no-row (Enrol pages allowance share list asf) = refl
+no-row (Enrol x) = refl
 no-row (Create name pages) = refl
 no-row (Destroy id) = refl
 no-row (Permit id guest right) = refl

@@ -10,6 +10,7 @@ use Rattle.model.proofs.Guest as guest
 use Rattle.model.proofs.Operation as operation
 use Rattle.model.proofs.Permit as permit
 use Rattle.model.proofs.Right as right
+use Rattle.model.proofs.Settings as settings
 use Rattle.model.proofs.Space as space
 use Rattle.model.proofs.Standing as standing
 use Rattle.model.proofs.State as state
@@ -44,8 +45,11 @@ standing-fields = refl
 
 -- arguments of 32 bits, and names of 64: ENROL, CREATE, DESTROY, PERMIT, ISOLATE, QUERY, ADD, REMOVE, LOAD, MODE, FETCH,
 -- STORE, RESET
+pub settings-fields : settings.struct .parts ≡ u32-field ∷ u32-field ∷ u32-field ∷ u32-field ∷ u32-field ∷ []
+settings-fields = refl
+
 pub operation-fields : operation.parts ≡
-    (u32-field ∷ u32-field ∷ u32-field ∷ u32-field ∷ u32-field ∷ [])
+    (settings.the-field ∷ [])
     ∷ (u64-field ∷ u32-field ∷ [])
     ∷ (u32-field ∷ [])
     ∷ (u32-field ∷ u32-field ∷ right.the-field ∷ [])

@@ -130,8 +130,7 @@ module _ (s : State) (c : Caller) where
 
   performed : (k : Operation) (n : ℕ) → Fine k n
   unfolding perform Performed row ownRow listed number either enrol create destroy permit isolate query add remove load mode fetching storing reset
-  performed (Enrol pages allowance share list asf) n =
-      making-verdict s _ pages _ refl refl refl
+  performed (Enrol x) n = making-verdict s _ (x .pages) _ refl refl refl
   performed (Create name pages) n =
       check-verdict _ _ (leb 32 (slotNamed (s .spaces) (c .guest) name)) NameTaken _ refl refl (λ e1.
       check-verdict _ _ (not (eqb (dataSpaces (s .spaces) (c .guest)) (guestAt (s .guests) (c .guest) .allowance))) AllowanceUsed _ refl refl (λ e2.
@@ -170,7 +169,7 @@ module _ (s : State) (c : Caller) where
   -- 3 is in the row of each call that has arguments with limits
   lists-3 : (k : Operation) (n : ℕ) → Lists3 (arguments (s .guests) c k n) (row k)
   unfolding arguments row ownRow listed either
-  lists-3 (Enrol pages allowance share list asf) n = refl
+  lists-3 (Enrol x) n = refl
   lists-3 (Create name pages) n = refl
   lists-3 (Destroy id) n = tt
   lists-3 (Permit id guest right) n = refl

@@ -12,6 +12,7 @@ use Rattle.model.specs.declared.Kind.{Kind}
 use Rattle.model.specs.declared.Kind.the-variants.{Pages, Allowance, ListSize, Flag, Name, Register, Length, OtherGuest}
 use Rattle.model.specs.declared.Operation.{Operation}
 use Rattle.model.specs.declared.Operation.the-variants.{Enrol, Create, Destroy, Permit, Isolate, Query, Add, Remove, Load, Mode, Fetch, Store, Reset}
+use Rattle.model.specs.declared.Settings.{Settings}
 use Rattle.model.specs.Decision.{Decision, check}
 use Rattle.model.specs.Names.{goodName}
 use Rattle.model.specs.Searches.{enrolled}
@@ -45,13 +46,17 @@ goodLength n = both (leb 1 n) (leb n maxTransfer)
 abbrev pub goodOther : List Guest → Caller → (guest : ℕ) → Bool
 goodOther gs c h = both (enrolled gs h) (not (eqb h (c .guest)))
 
+-- ENROL's arguments after its guest, in the paper's order
+abbrev pub settingsOf : (pages allowance share list asf : ℕ) → Settings
+settingsOf pages allowance share list asf = record { pages = pages; allowance = allowance; share = share; list = list; asf = asf }
+
 unfoldable pub arguments : List Guest → Caller → Operation → (buffer : ℕ) → List Argument
-arguments gs c (Enrol pages allowance share list asf) n =
-    argument (goodPages pages) Pages 2
-    ∷ argument (leb allowance maxAllowance) Allowance 3
-    ∷ argument (goodFlag share) Flag 4
-    ∷ argument (both (leb 1 list) (leb list maxList)) ListSize 5
-    ∷ argument (goodFlag asf) Flag 6
+arguments gs c (Enrol x) n =
+    argument (goodPages (x .pages)) Pages 2
+    ∷ argument (leb (x .allowance) maxAllowance) Allowance 3
+    ∷ argument (goodFlag (x .share)) Flag 4
+    ∷ argument (both (leb 1 (x .list)) (leb (x .list) maxList)) ListSize 5
+    ∷ argument (goodFlag (x .asf)) Flag 6
     ∷ []
 arguments gs c (Create name pages) n = argument (goodName name) Name 2 ∷ argument (goodPages pages) Pages 3 ∷ []
 arguments gs c (Destroy id) n = []

@@ -14,12 +14,14 @@ use Rattle.model.specs.declared.Operation.{Operation}
 use Rattle.model.specs.declared.Operation.the-variants.{Enrol, Create, Destroy, Permit, Isolate, Query, Add, Remove, Load, Mode, Fetch, Store, Reset}
 use Rattle.model.specs.declared.Right.{Right}
 use Rattle.model.specs.declared.Right.the-variants.{Read, Write}
+use Rattle.model.specs.declared.Settings.{Settings}
 use Rattle.model.specs.declared.Space.{Space}
 use Rattle.model.specs.declared.Standing.the-variants.{Valid}
 use Rattle.model.specs.declared.State.{State}
 use Rattle.model.specs.declared.Translation.{Translation}
 use Rattle.model.specs.declared.Translation.the-variants.{Reached, Refused}
 use Rattle.model.specs.Arguments.{arguments, checkAll}
+use Rattle.model.specs.Classes.{classOf}
 use Rattle.model.specs.Changes.{allows, raised, released, applied}
 use Rattle.model.specs.Decision.{Decision, Effect, none, clear, fetch, store, refuse, accept, done, check}
 use Rattle.model.specs.Frames.{framesOf, sizeOf}
@@ -45,15 +47,14 @@ making s pages c =
 
 -- "ENROL guest, pages 1-512, allowance 0-31, share 0/1, L, ASF 0/1: then 3, 9, 11, 10. Makes the guest's primary space,
 -- named BASE. Value: its identification."
-unfoldable pub newGuest : (allowance share list asf : ℕ) → Guest
-newGuest allowance share list asf = record { enrolled = true; allowance = allowance; share = eqb share 1; list = list; asf = eqb asf 1 }
+unfoldable pub newGuest : Settings → Guest
+newGuest x = record { enrolled = true; allowance = x .allowance; share = eqb (x .share) 1; list = x .list; asf = eqb (x .asf) 1 }
 
-abbrev pub enrolling : State → (guest pages allowance share list asf : ℕ) → Change
-enrolling s g pages allowance share list asf =
-    AddGuest (freeSlot (s .spaces)) (newSpace s g baseName pages) (guestPlace g) (newGuest allowance share list asf)
+abbrev pub enrolling : State → (guest : ℕ) → Settings → Change
+enrolling s g x = AddGuest (freeSlot (s .spaces)) (newSpace s g baseName (x .pages)) (guestPlace g) (newGuest x)
 
-unfoldable pub enrol : State → (guest pages allowance share list asf : ℕ) → Decision
-enrol s g pages allowance share list asf = making s pages (enrolling s g pages allowance share list asf)
+unfoldable pub enrol : State → (guest : ℕ) → Settings → Decision
+enrol s g x = making s (x .pages) (enrolling s g x)
 
 -- "CREATE name, pages 1-512: 3, 4, 8, 9, 11, 10. Value: identification. The primary doesn't count in the allowance."
 abbrev pub creating : State → (guest name pages : ℕ) → Change
@@ -166,7 +167,7 @@ reset g = done (ResetGuest g)
 
 -- Any call, after the checks 1, 2 and 3.
 unfoldable pub perform : State → Caller → Operation → (buffer : ℕ) → Decision
-perform s c (Enrol pages allowance share list asf) n = enrol s (c .guest) pages allowance share list asf
+perform s c (Enrol x) n = enrol s (c .guest) x
 perform s c (Create name pages) n = create s (c .guest) name pages
 perform s c (Destroy id) n = destroy s (c .guest) id
 perform s c (Permit id guest right) n = permit s (c .guest) id guest right
@@ -182,19 +183,7 @@ perform s c Reset n = reset (c .guest)
 
 -- Check 2: "caller not 1 to 8 or not enrolled; for ENROL, not 1 to 8 or already enrolled"
 unfoldable pub enrols : Operation → Bool
-enrols (Enrol pages allowance share list asf) = true
-enrols (Create name pages) = false
-enrols (Destroy id) = false
-enrols (Permit id guest right) = false
-enrols (Isolate id) = false
-enrols (Query owner name) = false
-enrols (Add id right) = false
-enrols (Remove token) = false
-enrols (Load register value) = false
-enrols (Mode m) = false
-enrols (Fetch register address) = false
-enrols (Store register address) = false
-enrols Reset = false
+enrols k = classOf k .enrols
 
 unfoldable pub mayEnrol : State → (guest : ℕ) → Bool
 mayEnrol s g = both (both (leb 1 g) (leb g guestCount)) (not (guestAt (s .guests) g .enrolled))

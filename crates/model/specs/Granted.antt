@@ -100,7 +100,7 @@ pub record ResetDone (g : ℕ) (d : Decision) : Type 0 where
   pub is : d ≡ done (ResetGuest g)
 
 unfoldable pub Performed : State → Caller → Operation → (buffer : ℕ) → Decision → Type 0
-Performed s c (Enrol pages allowance share list asf) n d = Made s pages (enrolling s (c .guest) pages allowance share list asf) d
+Performed s c (Enrol x) n d = Made s (x .pages) (enrolling s (c .guest) x) d
 Performed s c (Create name pages) n d = Created s (c .guest) name pages d
 Performed s c (Destroy id) n d = Destroyed s (c .guest) id d
 Performed s c (Permit id guest right) n d = Permitted s (c .guest) id guest right d

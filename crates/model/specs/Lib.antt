@@ -14,6 +14,7 @@ pub mod Searches
 pub mod Runs
 pub mod Changes
 pub mod Decision
+pub mod Classes
 pub mod Arguments
 pub mod Calls
 pub mod Granted

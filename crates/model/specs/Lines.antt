@@ -13,6 +13,8 @@ use Rattle.model.specs.declared.Request.{Request}
 use Rattle.model.specs.declared.Request.the-variants.{Frames, Call, NotRead}
 use Rattle.model.specs.declared.Right.{Right}
 use Rattle.model.specs.declared.Right.the-variants.{Read, Write}
+use Rattle.model.specs.Arguments.{settingsOf}
+use Rattle.model.specs.Classes.{isStore}
 use Rattle.model.specs.Names.{digit}
 
 -- "fields parted by tabs": a line of n tabs has n + 1 fields, some perhaps empty
@@ -143,7 +145,7 @@ forms =
     -- FRAMES
     form (70 ∷ 82 ∷ 65 ∷ 77 ∷ 69 ∷ 83 ∷ []) (number ∷ []) (λ v. Frames (at v 0))
     -- ENROL
-    ∷ form (69 ∷ 78 ∷ 82 ∷ 79 ∷ 76 ∷ []) (number ∷ number ∷ number ∷ number ∷ number ∷ number ∷ []) (λ v. call v (Enrol (at v 1) (at v 2) (at v 3) (at v 4) (at v 5)) 0)
+    ∷ form (69 ∷ 78 ∷ 82 ∷ 79 ∷ 76 ∷ []) (number ∷ number ∷ number ∷ number ∷ number ∷ number ∷ []) (λ v. call v (Enrol (settingsOf (at v 1) (at v 2) (at v 3) (at v 4) (at v 5))) 0)
     -- CREATE
     ∷ form (67 ∷ 82 ∷ 69 ∷ 65 ∷ 84 ∷ 69 ∷ []) (number ∷ name ∷ number ∷ []) (λ v. call v (Create (at v 1) (at v 2)) 0)
     -- DESTROY
@@ -194,21 +196,6 @@ unfoldable pub readLine : List ℕ → Request
 readLine l = choose (leb (length l) 600) (readAll (fields l)) NotRead
 
 -- Store data stand beside the request, which has their length.
-unfoldable pub isStore : Operation → Bool
-isStore (Enrol pages allowance share list asf) = false
-isStore (Create n pages) = false
-isStore (Destroy id) = false
-isStore (Permit id guest r) = false
-isStore (Isolate id) = false
-isStore (Query owner n) = false
-isStore (Add id r) = false
-isStore (Remove token) = false
-isStore (Load register value) = false
-isStore (Mode m) = false
-isStore (Fetch register address) = false
-isStore (Store register address) = true
-isStore Reset = false
-
 unfoldable pub stores : Request → Bool
 stores (Frames f) = false
 stores (Call k n) = isStore (k .operation)

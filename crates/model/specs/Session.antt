@@ -11,11 +11,11 @@ use Rattle.model.specs.declared.Answer.the-variants.{Done, Limit, LineNo
 use Rattle.model.specs.declared.Call.{Call}
 use Rattle.model.specs.declared.Kind.the-variants.{Frames as FrameCount}
 use Rattle.model.specs.declared.Operation.{Operation}
-use Rattle.model.specs.declared.Operation.the-variants.{Enrol, Create, Destroy, Permit, Isolate, Query, Add, Remove, Load, Mode, Fetch, Store, Reset}
 use Rattle.model.specs.declared.Request.{Request}
 use Rattle.model.specs.declared.Request.the-variants as request
 use Rattle.model.specs.declared.State.{State}
 use Rattle.model.specs.Answers.{number, value}
+use Rattle.model.specs.Classes.{Moves, noBytes, fromSpace, toSpace, Shows, noValue, itsValue, itsBytes, classOf}
 use Rattle.model.specs.Fresh.{emptyTables}
 use Rattle.model.specs.Lines.{readLine, dataOf}
 use Rattle.model.specs.Sizes.{frameSize}
@@ -51,20 +51,13 @@ abbrev pub turn : Request → Answer → List ℕ → Session → Turn
 turn r a b s = record { outcome = record { request = r; answer = a; moved = b }; after = s }
 
 -- the buffer of a call: FETCH's length "above 257 .. is carried out as 257"; STORE's is its data
+abbrev pub filled : Moves → (length : ℕ) → (bytes : List ℕ) → List ℕ
+filled noBytes n d = []
+filled (fromSpace r a) n d = replicate (min n 257) 0
+filled (toSpace r a) n d = d
+
 unfoldable pub bufferFor : Operation → (length : ℕ) → (bytes : List ℕ) → List ℕ
-bufferFor (Enrol pages allowance share list asf) n d = []
-bufferFor (Create name pages) n d = []
-bufferFor (Destroy id) n d = []
-bufferFor (Permit id guest right) n d = []
-bufferFor (Isolate id) n d = []
-bufferFor (Query owner name) n d = []
-bufferFor (Add id right) n d = []
-bufferFor (Remove token) n d = []
-bufferFor (Load register value) n d = []
-bufferFor (Mode m) n d = []
-bufferFor (Fetch register address) n d = replicate (min n 257) 0
-bufferFor (Store register address) n d = d
-bufferFor Reset n d = []
+bufferFor k n d = filled (classOf k .moves) n d
 
 abbrev pub issueOf : Call → (length : ℕ) → (bytes : List ℕ) → Issue
 issueOf k n d = record { call = k; buffer = bufferFor (k .operation) n d }
@@ -130,20 +123,13 @@ abbrev pub dash : List ℕ
 dash = 45 ∷ []
 
 -- "The value is an identification, a token, fetched bytes in hex, or "-" where there is none"
+abbrev pub shown : Shows → Answer → (moved : List ℕ) → List ℕ
+shown noValue a b = dash
+shown itsValue a b = decimal (value a)
+shown itsBytes a b = hexText b
+
 unfoldable pub doneText : Operation → Answer → (moved : List ℕ) → List ℕ
-doneText (Enrol pages allowance share list asf) a b = decimal (value a)
-doneText (Create name pages) a b = decimal (value a)
-doneText (Destroy id) a b = dash
-doneText (Permit id guest right) a b = dash
-doneText (Isolate id) a b = dash
-doneText (Query owner name) a b = decimal (value a)
-doneText (Add id right) a b = decimal (value a)
-doneText (Remove token) a b = dash
-doneText (Load register value) a b = dash
-doneText (Mode m) a b = dash
-doneText (Fetch register address) a b = hexText b
-doneText (Store register address) a b = dash
-doneText Reset a b = dash
+doneText k a b = shown (classOf k .shows) a b
 
 unfoldable pub requestText : Request → Answer → (moved : List ℕ) → List ℕ
 requestText (request.Frames f) a b = dash

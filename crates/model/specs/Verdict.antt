@@ -15,7 +15,7 @@ use Rattle.model.specs.Decision.{Decision, refuse}
 -- what each call may answer after the checks 1 and 2, in the paper's order. The paper's row for FETCH and STORE lists 18,
 -- which a fetch never gives.
 unfoldable pub ownRow : Operation → List ℕ
-ownRow (Enrol pages allowance share list asf) = 3 ∷ 9 ∷ 11 ∷ 10 ∷ []
+ownRow (Enrol x) = 3 ∷ 9 ∷ 11 ∷ 10 ∷ []
 ownRow (Create name pages) = 3 ∷ 4 ∷ 8 ∷ 9 ∷ 11 ∷ 10 ∷ []
 ownRow (Destroy id) = 5 ∷ 6 ∷ 20 ∷ []
 ownRow (Permit id guest right) = 3 ∷ 5 ∷ 6 ∷ 7 ∷ []

@@ -112,57 +112,31 @@ pub struct Caller {
     pub guest: u32,
 }
 
+// What ENROL sets, as it is asked for: the pages of the primary space, the allowance of data spaces, whether the guest may share,
+// L, and whether it has the ASF control.
+pub struct Settings {
+    pub pages: u32,
+    pub allowance: u32,
+    pub share: u32,
+    pub list: u32,
+    pub asf: u32,
+}
+
 // The thirteen calls with their arguments, the caller left out. ENROL's guest is its caller. The length of a fetch or
 // store is that of the lent buffer.
 pub enum Operation {
-    Enrol {
-        pages: u32,
-        allowance: u32,
-        share: u32,
-        list: u32,
-        asf: u32,
-    },
-    Create {
-        name: u64,
-        pages: u32,
-    },
-    Destroy {
-        id: u32,
-    },
-    Permit {
-        id: u32,
-        guest: u32,
-        right: Right,
-    },
-    Isolate {
-        id: u32,
-    },
-    Query {
-        owner: u32,
-        name: u64,
-    },
-    Add {
-        id: u32,
-        right: Right,
-    },
-    Remove {
-        token: u32,
-    },
-    Load {
-        register: u32,
-        value: u32,
-    },
-    Mode {
-        mode: u32,
-    },
-    Fetch {
-        register: u32,
-        address: u32,
-    },
-    Store {
-        register: u32,
-        address: u32,
-    },
+    Enrol { settings: Settings },
+    Create { name: u64, pages: u32 },
+    Destroy { id: u32 },
+    Permit { id: u32, guest: u32, right: Right },
+    Isolate { id: u32 },
+    Query { owner: u32, name: u64 },
+    Add { id: u32, right: Right },
+    Remove { token: u32 },
+    Load { register: u32, value: u32 },
+    Mode { mode: u32 },
+    Fetch { register: u32, address: u32 },
+    Store { register: u32, address: u32 },
     Reset,
 }
 

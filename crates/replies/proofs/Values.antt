@@ -1,7 +1,7 @@
 -- Which text an outcome's value is, by what the line asked for, and a line put together. Assumes nothing.
 use Prim.Native.Nat.{ℕ}
 use mathlib.Core.List.{List, [], _∷_, _++_, append-assoc}
-use mathlib.Core.Path.{_≡_, refl, sym, _∙_}
+use mathlib.Core.Path.{_≡_, refl, sym, ap, _∙_}
 use denote.Enum.Declared.{tagOf}
 use types.Run.{OneOf, miss}
 use borrow.Author.Tests.{eq-eqb, ne-eqb}
@@ -9,11 +9,13 @@ use Rattle.lists.proofs.Choice.{yes!, no! }
 use Rattle.model.specs.declared.Answer.{Answer}
 use Rattle.model.specs.declared.Call.{Call}
 use Rattle.model.specs.declared.Operation.{Operation}
-use Rattle.model.specs.declared.Operation.the-variants.{Enrol, Create, Destroy, Permit, Isolate, Query, Add, Remove, Load, Mode, Fetch, Store, Reset}
+use Rattle.model.specs.declared.Operation.the-variants.{Fetch}
 use Rattle.model.specs.declared.Request.{Request}
 use Rattle.model.specs.declared.Request.the-variants as request
 use Rattle.model.specs.Answers.{number, value}
-use Rattle.model.specs.Session.{LineOutcome, decimal, hexText, dash, doneText, requestText, valueText, lineText}
+use Rattle.model.specs.Classes.{noValue, itsValue}
+use Rattle.model.specs.Session.{LineOutcome, decimal, hexText, dash, shown, doneText, requestText, valueText, lineText}
+use Rattle.model.proofs.Classes.{shows-at}
 use Rattle.model.proofs.Operation as operation-cases
 use Rattle.model.proofs.Request as request-cases
 use Rattle.digits.specs.Wrote.{Wrote}
@@ -29,35 +31,11 @@ unshown = 2 ∷ 3 ∷ 4 ∷ 7 ∷ 8 ∷ 9 ∷ 11 ∷ 12 ∷ []
 
 number-is : (o : Operation) (a : Answer) (m : List ℕ) → OneOf numbered (tagOf operation-cases.the-type o) → decimal (value a) ≡ doneText o a m
 unfolding doneText
-number-is (Enrol pages allowance share list asf) a m h = refl
-number-is (Create name pages) a m h = refl
-number-is (Destroy id) a m h = absurd (miss numbered 2 tt h)
-number-is (Permit id guest right) a m h = absurd (miss numbered 3 tt h)
-number-is (Isolate id) a m h = absurd (miss numbered 4 tt h)
-number-is (Query owner name) a m h = refl
-number-is (Add id right) a m h = refl
-number-is (Remove token) a m h = absurd (miss numbered 7 tt h)
-number-is (Load register value) a m h = absurd (miss numbered 8 tt h)
-number-is (Mode mode) a m h = absurd (miss numbered 9 tt h)
-number-is (Fetch register address) a m h = absurd (miss numbered 10 tt h)
-number-is (Store register address) a m h = absurd (miss numbered 11 tt h)
-number-is Reset a m h = absurd (miss numbered 12 tt h)
+number-is o a m h = ap (λ v. shown v a m) (sym (shows-at numbered o h itsValue refl))
 
 none-is : (o : Operation) (a : Answer) (m : List ℕ) → OneOf unshown (tagOf operation-cases.the-type o) → dash ≡ doneText o a m
 unfolding doneText
-none-is (Enrol pages allowance share list asf) a m h = absurd (miss unshown 0 tt h)
-none-is (Create name pages) a m h = absurd (miss unshown 1 tt h)
-none-is (Destroy id) a m h = refl
-none-is (Permit id guest right) a m h = refl
-none-is (Isolate id) a m h = refl
-none-is (Query owner name) a m h = absurd (miss unshown 5 tt h)
-none-is (Add id right) a m h = absurd (miss unshown 6 tt h)
-none-is (Remove token) a m h = refl
-none-is (Load register value) a m h = refl
-none-is (Mode mode) a m h = refl
-none-is (Fetch register address) a m h = absurd (miss unshown 10 tt h)
-none-is (Store register address) a m h = refl
-none-is Reset a m h = refl
+none-is o a m h = ap (λ v. shown v a m) (sym (shows-at unshown o h noValue refl))
 
 module _ {o o₁ : List ℕ} {p q : ℕ} (x : Operation) (a : Answer) (m : List ℕ) where
   pub number-done : {v : ℕ} → OneOf numbered (tagOf operation-cases.the-type x) → v ≡ value a → Wrote o p (decimal v) o₁ q → Wrote o p (doneText x a m) o₁ q

@@ -73,7 +73,7 @@ pub fn permit(mut s: State, caller: Caller, id: u32, guest: u32, right: Right) -
     }
     let p = s.permits[u * 8 + to];
     let old = p.grant;
-    let grant = entries::raise(old, right);
+    let grant = permits::raise(old, right);
     s.permits[u * 8 + to] = Permit { grant };
     Reply {
         answer: Answer::Done { value: 0 },
@@ -116,7 +116,7 @@ pub fn query(s: State, caller: Caller, owner: u32, name: u64) -> Answer
     }
     let x = ss[u];
     let p = s.permits[u * 8 + at];
-    if !entries::is_entitled(x, p, caller.guest, Right::Read) {
+    if !permits::is_entitled(x, p, caller.guest, Right::Read) {
         return Answer::NoSpace;
     }
     Answer::Done { value: x.id }
@@ -161,7 +161,7 @@ pub fn add(s: State, caller: Caller, id: u32, right: Right) -> Reply
     }
     let x = ss[u];
     let p = s.permits[u * 8 + at];
-    if !entries::is_entitled(x, p, caller.guest, right) {
+    if !permits::is_entitled(x, p, caller.guest, right) {
         return refuse(s, Answer::NotPermitted);
     }
     let g = gs[at];

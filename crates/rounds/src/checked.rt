@@ -76,16 +76,7 @@ fn reading(s: State, scratch: &[u8], buffer: &mut [u8], call: u32, n: u32) -> u6
 fn writing_round(s: State, scratch: &mut [u8], bytes: &[u8], call: u32, size: u32, i: u32) -> u64 {
     let who = turn::caller(i);
     if call == turn::ENROL {
-        let r = spaces::enrol(
-            s,
-            scratch,
-            turn::newcomer(),
-            size,
-            i % 32,
-            i % 2,
-            i % 30 + 1,
-            i / 2 % 2,
-        );
+        let r = spaces::enrol(s, scratch, turn::newcomer(), turn::settings(size, i));
         return turn::tasted(r, i);
     }
     if call == turn::CREATE {

@@ -74,20 +74,11 @@ fn writing_round(s: State, scratch: &mut [u8], bytes: &[u8], call: u32, size: u3
 {
     let who = turn::caller(i);
     if call == turn::ENROL {
-        let r = making::enrol(
-            s,
-            scratch,
-            turn::newcomer(),
-            size,
-            i % 32,
-            i % 2,
-            i % 30 + 1,
-            i / 2 % 2,
-        );
+        let r = enrolling::enrol(s, scratch, turn::newcomer(), turn::settings(size, i));
         return turn::tasted(r, i);
     }
     if call == turn::CREATE {
-        let r = making::create(s, scratch, who, turn::NEW, size);
+        let r = creating::create(s, scratch, who, turn::NEW, size);
         return turn::tasted(r, i);
     }
     turn::told(access::store(s, scratch, who, turn::register(i), turn::address(i), bytes))

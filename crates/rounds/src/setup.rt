@@ -4,6 +4,7 @@ use model::Call;
 use model::Caller;
 use model::Operation;
 use model::Right;
+use model::Settings;
 use model::State;
 
 // The calls that fill tables and scratch: 8 ENROL with 3 CREATE each, 32 x 7 PERMIT, 8 x 30 ADD, 8 MODE, 8 x 16 LOAD and
@@ -43,11 +44,13 @@ fn make(k: u32) -> Call {
         return from(
             k / 4 + 1,
             Operation::Enrol {
-                pages: 16,
-                allowance: 31,
-                share: 1,
-                list: 30,
-                asf: 1,
+                settings: Settings {
+                    pages: 16,
+                    allowance: 31,
+                    share: 1,
+                    list: 30,
+                    asf: 1,
+                },
             },
         );
     }

@@ -3,6 +3,7 @@ use model::Answer;
 use model::Caller;
 use model::Reply;
 use model::Right;
+use model::Settings;
 
 // The numbers of the calls, and of the soundness test; any other number is that of a round that makes no call.
 pub const ENROL: u32 = 1;
@@ -54,6 +55,16 @@ pub(crate) fn caller(i: u32) -> Caller {
 // The guest that is not enrolled yet where one is to be.
 pub(crate) fn newcomer() -> Caller {
     Caller { guest: 8 }
+}
+
+pub(crate) fn settings(pages: u32, i: u32) -> Settings {
+    Settings {
+        pages,
+        allowance: i % 32,
+        share: i % 2,
+        list: i % 30 + 1,
+        asf: i / 2 % 2,
+    }
 }
 
 // The identification of one of the caller's spaces, the primary among them.

@@ -13,6 +13,7 @@ use model::Call;
 use model::Caller;
 use model::Reply;
 use model::Right;
+use model::Settings;
 use model::State;
 
 // The paper's number of an answer, and its value.
@@ -44,22 +45,13 @@ fn unsound(s: State) -> Reply
     }
 }
 
-pub fn enrol(
-    s: State,
-    scratch: &mut [u8],
-    caller: Caller,
-    pages: u32,
-    allowance: u32,
-    share: u32,
-    list: u32,
-    asf: u32,
-) -> Reply
-    ensures { λ r. ⌜ Promise (stepOf s (now (scratch .entry)) (callOf caller (Enrol pages allowance share list asf)) []) (r .answer) (r .state) (now (scratch .exit)) [] ⌝ }
+pub fn enrol(s: State, scratch: &mut [u8], caller: Caller, settings: Settings) -> Reply
+    ensures { λ r. ⌜ Promise (stepOf s (now (scratch .entry)) (callOf caller (Enrol settings)) []) (r .answer) (r .state) (now (scratch .exit)) [] ⌝ }
 {
     if !ready::is_ready(s, scratch.len()) {
         return unsound(s);
     }
-    making::enrol(s, scratch, caller, pages, allowance, share, list, asf)
+    enrolling::enrol(s, scratch, caller, settings)
 }
 
 pub fn create(s: State, scratch: &mut [u8], caller: Caller, name: u64, pages: u32) -> Reply
@@ -68,7 +60,7 @@ pub fn create(s: State, scratch: &mut [u8], caller: Caller, name: u64, pages: u3
     if !ready::is_ready(s, scratch.len()) {
         return unsound(s);
     }
-    making::create(s, scratch, caller, name, pages)
+    creating::create(s, scratch, caller, name, pages)
 }
 
 pub fn destroy(s: State, scratch: &[u8], caller: Caller, id: u32) -> Reply

@@ -15,7 +15,7 @@ use Rattle.model.specs.declared.Call.{Call}
 use Rattle.model.specs.declared.Operation.the-variants.{Fetch, Store}
 use Rattle.model.specs.declared.Request.{Request}
 use Rattle.model.specs.declared.Request.the-variants.{Call as Asked}
-use Rattle.model.specs.Lines.{isStore, stores, lengthOf}
+use Rattle.model.specs.Lines.{stores, lengthOf}
 use Rattle.model.specs.Session.{bufferFor}
 use Rattle.turns.specs.Taken.{dataIn, Prepared}
 
@@ -51,7 +51,7 @@ unstoring q b e = no! _ _ e
 
 -- a FETCH has no data
 pub fetch-bare : (q : Request) (k : Call) (size register address : ℕ) (b : List ℕ) → q ≡ Asked k size → k .operation ≡ Fetch register address → dataIn q b ≡ []
-unfolding stores isStore
+unfolding stores
 fetch-bare q k size register address b g o = unstoring q b (rw (g, o) refl)
 
 -- the length that a call has is its request's
@@ -71,7 +71,7 @@ module _ (q : Request) (k : Call) (size : ℕ) (b : List ℕ) (n register addres
 
   -- STORE: its data
   pub store-given : k .operation ≡ Store register address → take (n - 0) (drop 0 b) ≡ dataIn q b
-  unfolding stores isStore lengthOf dataIn
+  unfolding stores lengthOf dataIn
   store-given o =
       let s : stores q ≡ true = rw (g, o) refl in
       let l : lengthOf q ≡ size = rw g refl in

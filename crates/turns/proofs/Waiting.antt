@@ -2,17 +2,18 @@
 use Prim.Native.Nat.{ℕ, _+_, _≤_}
 use mathlib.Core.Bool.{true, false}
 use mathlib.Core.List.{List, [], _∷_}
-use mathlib.Core.Path.{_≡_, refl, subst, sym}
+use mathlib.Core.Path.{_≡_, refl, subst, sym, ap}
 use denote.Enum.Declared.{tagOf}
-use types.Run.{OneOf, miss}
+use types.Run.{OneOf}
 use lib.ListN.{length}
 use Rattle.model.specs.declared.Call.{Call}
 use Rattle.model.specs.declared.Operation.{Operation}
-use Rattle.model.specs.declared.Operation.the-variants.{Enrol, Create, Destroy, Permit, Isolate, Query, Add, Remove, Load, Mode, Fetch, Store, Reset}
 use Rattle.model.specs.declared.Request.{Request}
 use Rattle.model.specs.declared.Request.the-variants.{Frames, Call as Asked}
-use Rattle.model.specs.Lines.{isStore, stores}
-use Rattle.model.specs.Session.{bufferFor, requestTurn}
+use Rattle.model.specs.Classes.{storesBytes, isStore}
+use Rattle.model.specs.Lines.{stores}
+use Rattle.model.specs.Session.{filled, bufferFor, requestTurn}
+use Rattle.model.proofs.Classes.{unmoving-at}
 use Rattle.model.proofs.Operation as operation-cases
 use Rattle.turns.specs.declared.Answered.{Answered}
 use Rattle.turns.specs.declared.Answered.the-variants.{To, NotYet}
@@ -27,20 +28,10 @@ changing = 0 ∷ 1 ∷ 2 ∷ 3 ∷ 4 ∷ 6 ∷ 7 ∷ 8 ∷ 9 ∷ 12 ∷ []
 
 -- they move no bytes
 bare : (o : Operation) (size : ℕ) → OneOf changing (tagOf operation-cases.the-type o) → (isStore o ≡ false) × (bufferFor o size [] ≡ [])
-unfolding bufferFor isStore
-bare (Enrol pages allowance share list asf) size h = (refl, refl)
-bare (Create name pages) size h = (refl, refl)
-bare (Destroy id) size h = (refl, refl)
-bare (Permit id guest right) size h = (refl, refl)
-bare (Isolate id) size h = (refl, refl)
-bare (Query owner name) size h = (refl, refl)
-bare (Add id right) size h = (refl, refl)
-bare (Remove token) size h = (refl, refl)
-bare (Load register value) size h = (refl, refl)
-bare (Mode mode) size h = (refl, refl)
-bare (Fetch register address) size h = absurd (miss changing 10 tt h)
-bare (Store register address) size h = absurd (miss changing 11 tt h)
-bare Reset size h = (refl, refl)
+unfolding bufferFor
+bare o size h =
+    let still = unmoving-at changing o h refl in
+    (ap storesBytes still, ap (λ v. filled v size []) still)
 
 module _ (q : Request) (k : Call) (size : ℕ) (e : q ≡ Asked k size) (o : OneOf changing (tagOf operation-cases.the-type (k .operation))) where
   pub call-waits : (h : Host) → h .begun ≡ true → h .ready ≡ true → Waiting h q

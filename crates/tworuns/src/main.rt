@@ -4,6 +4,7 @@ use model::Call;
 use model::Caller;
 use model::Operation;
 use model::Right;
+use model::Settings;
 use model::State;
 
 fn call(guest: u32, operation: Operation) -> Call {
@@ -92,11 +93,21 @@ fn ready_guest(s: State, scratch: &[u8], guest: u32) -> State {
     b.state
 }
 
+fn settings(share: u32) -> Settings {
+    Settings {
+        pages: 1,
+        allowance: 2,
+        share: share,
+        list: 4,
+        asf: 1,
+    }
+}
+
 // Two guests with a primary each, and space 3 of guest 1.
 fn spaces_made(scratch: &mut [u8; 16384]) -> State {
     let r = spaces::fresh(4);
-    let a = spaces::enrol(r.state, scratch, Caller { guest: 1 }, 1, 2, 1, 4, 1);
-    let b = spaces::enrol(a.state, scratch, Caller { guest: 2 }, 1, 2, 0, 4, 1);
+    let a = spaces::enrol(r.state, scratch, Caller { guest: 1 }, settings(1));
+    let b = spaces::enrol(a.state, scratch, Caller { guest: 2 }, settings(0));
     let c = spaces::create(b.state, scratch, Caller { guest: 1 }, temp(), 1);
     c.state
 }

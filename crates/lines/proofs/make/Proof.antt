@@ -47,8 +47,8 @@ cast-f c = search needs
 asked-requires : tie.Need-asked-requires
 asked-requires c κs = search needs
 
-array-read-t28 : tie.Need-array-read-t28
-array-read-t28 c = search needs
+array-read-t29 : tie.Need-array-read-t29
+array-read-t29 c = search needs
 
 asked-requires-2 : tie.Need-asked-requires-2
 asked-requires-2 c κs = search needs
@@ -68,8 +68,8 @@ asked-requires-4 c κs = search needs
 asked-requires-5 : tie.Need-asked-requires-5
 asked-requires-5 c κs = search needs
 
-array-read-t39 : tie.Need-array-read-t39
-array-read-t39 c = search needs
+array-read-t40 : tie.Need-array-read-t40
+array-read-t40 c = search needs
 
 asked-requires-6 : tie.Need-asked-requires-6
 asked-requires-6 c κs = search needs
@@ -163,14 +163,14 @@ make-spec =
     array-read-f
     cast-f
     asked-requires
-    array-read-t28
+    array-read-t29
     asked-requires-2
     asked-requires-3
     array-read-right-of
     right-of-requires
     asked-requires-4
     asked-requires-5
-    array-read-t39
+    array-read-t40
     asked-requires-6
     array-read-right-of-2
     right-of-requires-2

@@ -1,0 +1,26 @@
+-- ENROL's checks 2 and 3 as the code makes them: the place of a guest that may enrol, 8 for any other number; the place of the
+-- first setting outside its limits, and the kind of the one at a place.
+use Prim.Native.Nat.{ℕ}
+use mathlib.Core.Bool.{not}
+use mathlib.Core.List.{List}
+use lib.Dec.{leb, eqb}
+use Rattle.lists.specs.Choice.{choose, both}
+use Rattle.model.specs.declared.Guest.{Guest}
+use Rattle.model.specs.declared.Kind.{Kind}
+use Rattle.model.specs.declared.Kind.the-variants.{Pages, Allowance, ListSize, Flag}
+use Rattle.model.specs.declared.Settings.{Settings}
+use Rattle.model.specs.Tables.{guestAt, guestPlace}
+
+unfoldable pub newPlace : List Guest → (guest : ℕ) → ℕ
+newPlace gs g = choose (both (both (leb 1 g) (leb g 8)) (not (guestAt gs g .enrolled))) (guestPlace g) 8
+
+-- 0 where all are inside
+unfoldable pub wrongOf : Settings → ℕ
+wrongOf x =
+    choose (both (leb 1 (x .pages)) (leb (x .pages) 512))
+    (choose (leb (x .allowance) 31)
+    (choose (leb (x .share) 1)
+    (choose (both (leb 1 (x .list)) (leb (x .list) 30)) (choose (leb (x .asf) 1) 0 6) 5) 4) 3) 2
+
+unfoldable pub kindAt : (place : ℕ) → Kind
+kindAt n = choose (eqb n 2) Pages (choose (eqb n 3) Allowance (choose (eqb n 5) ListSize Flag))
