@@ -14,14 +14,14 @@ use Rattle.model.specs.declared.Space.{Space}
 use Rattle.model.specs.declared.State.{State}
 use Rattle.model.specs.Answers.{number, value}
 use Rattle.model.specs.Decision.{Decision, after, Effect, none, clear, fetch, store}
-use Rattle.model.specs.Frames.{layout, placeOf, bytesOf, framesOf}
-use Rattle.model.specs.Lawful.{SameSpace, ClearsSpace, Inside, EffectInside, Lawful}
+use Rattle.model.specs.Frames.{layout, placeOf, bytesOf}
+use Rattle.model.specs.Lawful.{SameSpace, Inside, cleared, Spares, Covers, EffectInside, Lawful}
 use Rattle.model.specs.Sound.{Live, Sound}
 use Rattle.model.specs.Step.{Machine, Ready, Issue, decision, step, scratchAfter, bufferAfter, clearFrames}
 use Rattle.model.specs.Tables.{spaceAt}
 use Rattle.model.proofs.Lawful.{lawful}
 use Rattle.model.proofs.Sound.{ready-kept, length-scratchAfter}
-use Rattle.model.proofs.SpaceBytes.{clear-own, clear-other, store-own, store-other, fetch-bytes}
+use Rattle.model.proofs.SpaceBytes.{clear-spared, clear-covered, store-own, store-other, fetch-bytes}
 use Rattle.isolation.specs.Reaches.{Reaches, ReachesIn}
 use Rattle.isolation.specs.TwoRuns.{EqualOutside, Alike, MayDiffer, Grows, Varied, SameCall, SameRuns, TwoRuns}
 use Rattle.isolation.proofs.Reaching.{touches, reaches-one}
@@ -41,16 +41,18 @@ module _ (X : ℕ → Bool) (s : State) (d : Decision) (ok : Sound (after s d)) 
   abbrev t : State
   t = after s d
 
-  -- a space live after it agreed before, or is cleared by it
-  before : (u : ℕ) → Live (t .spaces) u → X (spaceAt (t .spaces) u .id) ≡ false → (bytesOf t u m₁ ≡ bytesOf t u m₂) ⊎ ClearsSpace t (d .effect) u
-  before u l n = ⊎-elim (λ k. inl (kept k)) (λ c. inr c) (law .kept u l)
+  -- a space live after it agreed before and none of its frames is cleared, or all of them are
+  before : (u : ℕ) → Live (t .spaces) u → X (spaceAt (t .spaces) u .id) ≡ false → ((bytesOf t u m₁ ≡ bytesOf t u m₂) × Spares t (cleared (d .effect)) u) ⊎ Covers t (cleared (d .effect)) u
+  before u l n = ⊎-elim (λ (k : SameSpace s t u × Spares t (cleared (d .effect)) u). inl (kept (k .0), k .1)) (λ c. inr c) (law .kept u l)
     where
       kept : SameSpace s t u → bytesOf t u m₁ ≡ bytesOf t u m₂
       kept k = same-bytes s t u m₁ k ∙ agree u (k .live) (rw (k .space) at n) ∙ sym (same-bytes s t u m₂ k)
 
-  -- only a clearing clears
-  not-cleared : (e : Effect) → ((fs : List ℕ) → e ≡ clear fs → ⊥) → d .effect ≡ e → (u : ℕ) → Live (t .spaces) u → X (spaceAt (t .spaces) u .id) ≡ false → bytesOf t u m₁ ≡ bytesOf t u m₂
-  not-cleared e never is u l n = ⊎-elim (λ q. q) (λ (c : ClearsSpace t (d .effect) u). absurd (never (framesOf t u) (sym is ∙ c .all))) (before u l n)
+  -- a space has a page, so where nothing is cleared it agreed before
+  not-cleared : cleared (d .effect) ≡ [] → (u : ℕ) → Live (t .spaces) u → X (spaceAt (t .spaces) u .id) ≡ false → bytesOf t u m₁ ≡ bytesOf t u m₂
+  not-cleared clean u l n =
+      ⊎-elim (λ (k : (bytesOf t u m₁ ≡ bytesOf t u m₂) × Spares t (cleared (d .effect)) u). k .0)
+      (λ (c : Covers t (cleared (d .effect)) u). absurd (omega (arith, (rw clean at (c 0 (ok .spaces .pages u l))) .1))) (before u l n)
 
   -- R says that the call reaches a space of X: what it touches is the one space that it reaches
   abbrev Touched : ℕ → ℕ → Type 0
@@ -60,29 +62,19 @@ module _ (X : ℕ → Bool) (s : State) (d : Decision) (ok : Sound (after s d)) 
       (only : (u a : ℕ) → Touched u a → R → X (spaceAt (t .spaces) u .id) ≡ true) (same : (R → ⊥) → b₁ ≡ b₂) where
     effect-bytes : (e : Effect) → d .effect ≡ e → EffectInside t (length b₁) e → EqualOutside X t (scratchAfter t e m₁ b₁) (scratchAfter t e m₂ b₂)
     unfolding scratchAfter
-    effect-bytes none e i u l n = not-cleared none (λ fs z. let o : _≡_ {A = ℕ} 0 1 = cc in omega arith) e u l n
-    effect-bytes (fetch v a) e i u l n = not-cleared (fetch v a) (λ fs z. let o : _≡_ {A = ℕ} 0 1 = cc in omega arith) e u l n
-    effect-bytes (clear fs) e (v, c) u l n = ⊎-elim kept own (before u l n)
+    effect-bytes none e i u l n = not-cleared (ap cleared e) u l n
+    effect-bytes (fetch v a) e i u l n = not-cleared (ap cleared e) u l n
+    effect-bytes (clear fs) e i u l n = rw (← ap cleared e) (⊎-elim kept own (before u l n))
       where
-        zeros : (w : ℕ) → fs ≡ framesOf t w → Live (t .spaces) w → bytesOf t w (clearFrames fs m₁) ≡ bytesOf t w (clearFrames fs m₂)
-        zeros w q lw = rw q (clear-own t ok w m₁ lw ∙ sym (clear-own t ok w m₂ lw))
+        kept : (bytesOf t u m₁ ≡ bytesOf t u m₂) × Spares t (cleared (d .effect)) u → bytesOf t u (clearFrames (cleared (d .effect)) m₁) ≡ bytesOf t u (clearFrames (cleared (d .effect)) m₂)
+        kept k = clear-spared t ok (cleared (d .effect)) m₁ u (k .1) ∙ k .0 ∙ sym (clear-spared t ok (cleared (d .effect)) m₂ u (k .1))
 
-        own : ClearsSpace t (d .effect) u → bytesOf t u (clearFrames fs m₁) ≡ bytesOf t u (clearFrames fs m₂)
-        own k = zeros u (let z : clear fs ≡ clear (framesOf t u) = sym e ∙ k .all in cc) l
-
-        fs-is : fs ≡ framesOf t v
-        fs-is = let z : clear fs ≡ clear (framesOf t v) = c .all in cc
-
-        kept : bytesOf t u m₁ ≡ bytesOf t u m₂ → bytesOf t u (clearFrames fs m₁) ≡ bytesOf t u (clearFrames fs m₂)
-        kept q = go (ℕ-discrete u v)
-          where
-            go : Dec (u ≡ v) → bytesOf t u (clearFrames fs m₁) ≡ bytesOf t u (clearFrames fs m₂)
-            go (yes z) = rw z (zeros v fs-is (c .live))
-            go (no z) = rw fs-is (clear-other t ok v m₁ (c .live) u l z ∙ q ∙ sym (clear-other t ok v m₂ (c .live) u l z))
+        own : Covers t (cleared (d .effect)) u → bytesOf t u (clearFrames (cleared (d .effect)) m₁) ≡ bytesOf t u (clearFrames (cleared (d .effect)) m₂)
+        own k = clear-covered t ok (cleared (d .effect)) m₁ u k ∙ sym (clear-covered t ok (cleared (d .effect)) m₂ u k)
     effect-bytes (store v a) e i u l n = go (ℕ-discrete u v)
       where
         old : bytesOf t u m₁ ≡ bytesOf t u m₂
-        old = not-cleared (store v a) (λ fs z. let o : _≡_ {A = ℕ} 0 1 = cc in omega arith) e u l n
+        old = not-cleared (ap cleared e) u l n
 
         i₂ : Inside t v a (length b₂)
         i₂ = rw long at i
@@ -103,7 +95,7 @@ module _ (X : ℕ → Bool) (s : State) (d : Decision) (ok : Sound (after s d)) 
     effect-buffer (store v a) e i away = same away
     effect-buffer (fetch v a) e i away =
         let n = not-so (X (spaceAt (t .spaces) v .id)) (λ x. away (reach v a (inr e) x)) in
-        let q = not-cleared (fetch v a) (λ fs z. let o : _≡_ {A = ℕ} 0 1 = cc in omega arith) e v (i .live) n in
+        let q = not-cleared (ap cleared e) v (i .live) n in
         rw (← long)
         (fetch-bytes t ok v a (length b₁) m₁ i ∙ ap (λ x. part x a (length b₁)) q ∙ sym (fetch-bytes t ok v a (length b₁) m₂ i))
 
