@@ -4,3 +4,4 @@ pub mod Decides
 pub mod Places
 pub mod Lowest
 pub mod Bytes
+pub mod Text

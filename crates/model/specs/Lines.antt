@@ -2,11 +2,13 @@
 -- caller, then the arguments as listed above; rights R or W; store data as uppercase hex pairs." A line is given without its
 -- newline. Whatever is not of this form is not read: 21.
 use Prim.Native.Nat.{ℕ, _+_, _-_, _*_, _/_, _%_}
+use Prim.Native.String.{String}
 use mathlib.Core.Bool.{Bool, true, false, not}
 use mathlib.Core.List.{List, [], _∷_, _++_}
 use lib.ListN.{length, getD, replicate}
 use lib.Dec.{leb, eqb}
 use Rattle.lists.specs.Choice.{choose, both, either}
+use Rattle.lists.specs.Text.{byte, bytes}
 use Rattle.model.specs.declared.Operation.{Operation}
 use Rattle.model.specs.declared.Operation.the-variants.{Enrol, Create, Destroy, Permit, Isolate, Query, Add, Remove, Load, Mode, Fetch, Store, Reset}
 use Rattle.model.specs.declared.Request.{Request}
@@ -24,7 +26,7 @@ onto b (f ∷ fs) = (b ∷ f) ∷ fs
 
 unfoldable pub fields : List ℕ → List (List ℕ)
 fields [] = [] ∷ []
-fields (b ∷ bs) = choose (eqb b 9) ([] ∷ fields bs) (onto b (fields bs))
+fields (b ∷ bs) = choose (eqb b (byte "\t")) ([] ∷ fields bs) (onto b (fields bs))
 
 -- What a field spells, or that it is not of its kind.
 pub data Spelt : Type 0 where
@@ -42,13 +44,13 @@ digits (b ∷ bs) = both (digit b) (digits bs)
 
 unfoldable pub decimalFrom : (sum : ℕ) → List ℕ → ℕ
 decimalFrom n [] = n
-decimalFrom n (b ∷ bs) = decimalFrom (n * 10 + (b - 48)) bs
+decimalFrom n (b ∷ bs) = decimalFrom (n * 10 + (b - byte "0")) bs
 
 -- one zero, or no zero first
 unfoldable pub plain : List ℕ → Bool
 plain [] = false
 plain (b ∷ []) = true
-plain (b ∷ c ∷ cs) = not (eqb b 48)
+plain (b ∷ c ∷ cs) = not (eqb b (byte "0"))
 
 unfoldable pub numberField : List ℕ → Spelt
 numberField f = spelt (both (both (plain f) (digits f)) (leb (decimalFrom 0 f) 4294967295)) (decimalFrom 0 f)
@@ -56,7 +58,7 @@ numberField f = spelt (both (both (plain f) (digits f)) (leb (decimalFrom 0 f) 4
 -- not read are "a name field empty, over 8 bytes or holding a blank"; any other bytes are read, and judged by the call
 unfoldable pub noBlank : List ℕ → Bool
 noBlank [] = true
-noBlank (b ∷ bs) = both (not (eqb b 32)) (noBlank bs)
+noBlank (b ∷ bs) = both (not (eqb b (byte " "))) (noBlank bs)
 
 unfoldable pub packed : (sum : ℕ) → List ℕ → ℕ
 packed n [] = n
@@ -64,7 +66,7 @@ packed n (b ∷ bs) = packed (n * 256 + b) bs
 
 -- padded with blanks on the right to 8 bytes, first byte highest
 unfoldable pub packedName : List ℕ → ℕ
-packedName f = packed 0 (f ++ replicate (8 - length f) 32)
+packedName f = packed 0 (f ++ replicate (8 - length f) (byte " "))
 
 unfoldable pub nameField : List ℕ → Spelt
 nameField f = spelt (both (both (leb 1 (length f)) (leb (length f) 8)) (noBlank f)) (packedName f)
@@ -72,15 +74,15 @@ nameField f = spelt (both (both (leb 1 (length f)) (leb (length f) 8)) (noBlank 
 -- "rights R or W": 0 and 1
 unfoldable pub rightField : List ℕ → Spelt
 rightField [] = bad
-rightField (b ∷ []) = choose (eqb b 82) (is 0) (choose (eqb b 87) (is 1) bad)
+rightField (b ∷ []) = choose (eqb b (byte "R")) (is 0) (choose (eqb b (byte "W")) (is 1) bad)
 rightField (b ∷ c ∷ cs) = bad
 
 -- "store data as uppercase hex pairs", at most 257 bytes; "Empty hex is length 0." The field spells the number of bytes.
 unfoldable pub hexDigit : ℕ → Bool
-hexDigit b = either (digit b) (both (leb 65 b) (leb b 70))
+hexDigit b = either (digit b) (both (leb (byte "A") b) (leb b (byte "F")))
 
 unfoldable pub hexValue : ℕ → ℕ
-hexValue b = choose (digit b) (b - 48) (b - 55)
+hexValue b = choose (digit b) (b - byte "0") (b - 55)
 
 unfoldable pub hexDigits : List ℕ → Bool
 hexDigits [] = true
@@ -128,8 +130,8 @@ pub record Form : Type 0 where
   pub kinds : List FieldKind
   pub make : List ℕ → Request
 
-abbrev form : List ℕ → List FieldKind → (List ℕ → Request) → Form
-form w ks m = record { word = w; kinds = ks; make = m }
+abbrev form : (word : String) → List FieldKind → (List ℕ → Request) → Form
+form w ks m = record { word = bytes w; kinds = ks; make = m }
 
 abbrev pub at : List ℕ → ℕ → ℕ
 at v k = getD v k 0
@@ -142,34 +144,21 @@ call v o n = Call (record { caller = record { guest = at v 0 }; operation = o })
 
 unfoldable pub forms : List Form
 forms =
-    -- FRAMES
-    form (70 ∷ 82 ∷ 65 ∷ 77 ∷ 69 ∷ 83 ∷ []) (number ∷ []) (λ v. Frames (at v 0))
-    -- ENROL
-    ∷ form (69 ∷ 78 ∷ 82 ∷ 79 ∷ 76 ∷ []) (number ∷ number ∷ number ∷ number ∷ number ∷ number ∷ []) (λ v. call v (Enrol (settingsOf (at v 1) (at v 2) (at v 3) (at v 4) (at v 5))) 0)
-    -- CREATE
-    ∷ form (67 ∷ 82 ∷ 69 ∷ 65 ∷ 84 ∷ 69 ∷ []) (number ∷ name ∷ number ∷ []) (λ v. call v (Create (at v 1) (at v 2)) 0)
-    -- DESTROY
-    ∷ form (68 ∷ 69 ∷ 83 ∷ 84 ∷ 82 ∷ 79 ∷ 89 ∷ []) (number ∷ number ∷ []) (λ v. call v (Destroy (at v 1)) 0)
-    -- PERMIT
-    ∷ form (80 ∷ 69 ∷ 82 ∷ 77 ∷ 73 ∷ 84 ∷ []) (number ∷ number ∷ number ∷ right ∷ []) (λ v. call v (Permit (at v 1) (at v 2) (rightOf (at v 3))) 0)
-    -- ISOLATE
-    ∷ form (73 ∷ 83 ∷ 79 ∷ 76 ∷ 65 ∷ 84 ∷ 69 ∷ []) (number ∷ number ∷ []) (λ v. call v (Isolate (at v 1)) 0)
-    -- QUERY
-    ∷ form (81 ∷ 85 ∷ 69 ∷ 82 ∷ 89 ∷ []) (number ∷ number ∷ name ∷ []) (λ v. call v (Query (at v 1) (at v 2)) 0)
-    -- ADD
-    ∷ form (65 ∷ 68 ∷ 68 ∷ []) (number ∷ number ∷ right ∷ []) (λ v. call v (Add (at v 1) (rightOf (at v 2))) 0)
-    -- REMOVE
-    ∷ form (82 ∷ 69 ∷ 77 ∷ 79 ∷ 86 ∷ 69 ∷ []) (number ∷ number ∷ []) (λ v. call v (Remove (at v 1)) 0)
-    -- LOAD
-    ∷ form (76 ∷ 79 ∷ 65 ∷ 68 ∷ []) (number ∷ number ∷ number ∷ []) (λ v. call v (Load (at v 1) (at v 2)) 0)
-    -- MODE
-    ∷ form (77 ∷ 79 ∷ 68 ∷ 69 ∷ []) (number ∷ number ∷ []) (λ v. call v (Mode (at v 1)) 0)
-    -- FETCH: "has the length last; the request keeps the number"
-    ∷ form (70 ∷ 69 ∷ 84 ∷ 67 ∷ 72 ∷ []) (number ∷ number ∷ number ∷ number ∷ []) (λ v. call v (Fetch (at v 1) (at v 2)) (at v 3))
-    -- STORE
-    ∷ form (83 ∷ 84 ∷ 79 ∷ 82 ∷ 69 ∷ []) (number ∷ number ∷ number ∷ hex ∷ []) (λ v. call v (Store (at v 1) (at v 2)) (at v 3))
-    -- RESET
-    ∷ form (82 ∷ 69 ∷ 83 ∷ 69 ∷ 84 ∷ []) (number ∷ []) (λ v. call v Reset 0)
+    form "FRAMES" (number ∷ []) (λ v. Frames (at v 0))
+    ∷ form "ENROL" (number ∷ number ∷ number ∷ number ∷ number ∷ number ∷ []) (λ v. call v (Enrol (settingsOf (at v 1) (at v 2) (at v 3) (at v 4) (at v 5))) 0)
+    ∷ form "CREATE" (number ∷ name ∷ number ∷ []) (λ v. call v (Create (at v 1) (at v 2)) 0)
+    ∷ form "DESTROY" (number ∷ number ∷ []) (λ v. call v (Destroy (at v 1)) 0)
+    ∷ form "PERMIT" (number ∷ number ∷ number ∷ right ∷ []) (λ v. call v (Permit (at v 1) (at v 2) (rightOf (at v 3))) 0)
+    ∷ form "ISOLATE" (number ∷ number ∷ []) (λ v. call v (Isolate (at v 1)) 0)
+    ∷ form "QUERY" (number ∷ number ∷ name ∷ []) (λ v. call v (Query (at v 1) (at v 2)) 0)
+    ∷ form "ADD" (number ∷ number ∷ right ∷ []) (λ v. call v (Add (at v 1) (rightOf (at v 2))) 0)
+    ∷ form "REMOVE" (number ∷ number ∷ []) (λ v. call v (Remove (at v 1)) 0)
+    ∷ form "LOAD" (number ∷ number ∷ number ∷ []) (λ v. call v (Load (at v 1) (at v 2)) 0)
+    ∷ form "MODE" (number ∷ number ∷ []) (λ v. call v (Mode (at v 1)) 0)
+    -- "has the length last; the request keeps the number"
+    ∷ form "FETCH" (number ∷ number ∷ number ∷ number ∷ []) (λ v. call v (Fetch (at v 1) (at v 2)) (at v 3))
+    ∷ form "STORE" (number ∷ number ∷ number ∷ hex ∷ []) (λ v. call v (Store (at v 1) (at v 2)) (at v 3))
+    ∷ form "RESET" (number ∷ []) (λ v. call v Reset 0)
     ∷ []
 
 unfoldable pub sameBytes : List ℕ → List ℕ → Bool

@@ -6,6 +6,7 @@ use lib.ListN.{length, take, replicate}
 use lib.Dec.{leb, ltb, eqb}
 use Rattle.lists.specs.Bytes.{over}
 use Rattle.lists.specs.Choice.{choose, both}
+use Rattle.lists.specs.Text.{bytes}
 use Rattle.model.specs.declared.Answer.{Answer}
 use Rattle.model.specs.declared.Answer.the-variants.{Done, Limit, LineNotRead}
 use Rattle.model.specs.declared.Call.{Call}
@@ -151,9 +152,8 @@ unfoldable pub textFrom : (line : ℕ) → List LineOutcome → List ℕ
 textFrom n [] = []
 textFrom n (o ∷ os) = lineText n o ++ textFrom (nextLine n) os
 
--- "line answer value" and a newline
 abbrev pub header : List ℕ
-header = 108 ∷ 105 ∷ 110 ∷ 101 ∷ 32 ∷ 97 ∷ 110 ∷ 115 ∷ 119 ∷ 101 ∷ 114 ∷ 32 ∷ 118 ∷ 97 ∷ 108 ∷ 117 ∷ 101 ∷ 10 ∷ []
+header = bytes "line answer value\n"
 
 -- The whole session: all bytes of the input to all bytes of the output.
 unfoldable pub sessionText : (scratch input : List ℕ) → List ℕ
