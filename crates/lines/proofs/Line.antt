@@ -15,7 +15,7 @@ use Rattle.fields.specs.declared.Field.{Field}
 use Rattle.fields.specs.declared.Field.the-variants.{Is, Bad}
 use Rattle.fields.specs.Fields.{asField}
 use Rattle.lines.specs.Fields.{tabFrom, following}
-use Rattle.lines.specs.Tables.{formAt, placeOf}
+use Rattle.lines.specs.Tables.{calls, formAt, placeOf}
 use Rattle.lines.proofs.Cuts.{fields-at}
 use Rattle.fields.proofs.Spelling.{as-is, as-bad}
 use Rattle.fields.proofs.Turns.{Bytes}
@@ -39,8 +39,8 @@ module _ (l : List ℕ) (e : ℕ) (h : length l ≤ 600) (p : e ≡ tabFrom l 0)
       bytes : Bytes (take (e - 0) l)
       bytes = take-bytes (e - 0) l (record { byte = λ i. k i .fits })
 
-      pub line-unknown : 14 ≤ n → NotRead ≡ readLine l
+      pub line-unknown : calls ≤ n → NotRead ≡ readLine l
       line-unknown z = sym (line-is ∙ read-unknown (take (e - 0) l) _ v bytes (as-is _ v (sym q ∙ b)) (omega arith))
 
-      pub line-known : (x : Request) → n < 14 → x ≡ makeBy (formAt n .make) (readFields (formAt n .kinds) (following (drop e l))) → x ≡ readLine l
+      pub line-known : (x : Request) → n < calls → x ≡ makeBy (formAt n .make) (readFields (formAt n .kinds) (following (drop e l))) → x ≡ readLine l
       line-known x z y = y ∙ rw m (sym (line-is ∙ read-known (take (e - 0) l) _ v bytes (as-is _ v (sym q ∙ b)) (omega arith)))

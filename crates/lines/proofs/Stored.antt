@@ -51,9 +51,7 @@ data Each : List Form → Type 0 where
 
 each : Each forms
 unfolding forms stores lengthOf
-each =
-    and (never (λ v. refl)) (and (never (λ v. refl)) (and (never (λ v. refl)) (and (never (λ v. refl)) (and (never (λ v. refl)) (and (never (λ v. refl)) (and (never (λ v. refl))
-    (and (never (λ v. refl)) (and (never (λ v. refl)) (and (never (λ v. refl)) (and (never (λ v. refl)) (and (never (λ v. refl)) (and (last refl (λ v. refl)) (and (never (λ v. refl)) none)))))))))))))
+each = search (none, and, never, last, refl) depth 40
 
 store-form : (f : Form) (fs : List (List ℕ)) → Storing f → stores (makeBy (f .make) (readFields (f .kinds) fs)) ≡ true → Store fs (lengthOf (makeBy (f .make) (readFields (f .kinds) fs)))
 unfolding makeBy stores

@@ -1,21 +1,22 @@
 -- The fields of a line are taken one by one. Assumes nothing.
 use Prim.Native.Nat.{ℕ, _+_, _-_, _/_, _%_, _≤_, _<_}
+use mathlib.Core.Bool.{true}
 use mathlib.Core.List.{List, [], _∷_, _++_, append-nil, append-assoc}
 use mathlib.Core.Path.{_≡_, refl, sym, ap, _∙_}
 use native.Mathlib.Nat.{zero-add}
 use native.Mathlib.Numerals.{add-one}
 use native.Mathlib.Omega.{arith}
-use lib.ListN.{length, getD, take, drop, set, replicate, length-set, length-drop, drop-of-length-le}
+use lib.ListN.{length, getD, take, drop, set, length-set, length-drop, drop-of-length-le}
 use lib.Seq.{drop-drop, getD-take, take-suc-set}
 use Rattle.fields.specs.declared.Field.{Field}
 use Rattle.fields.specs.declared.Field.the-variants.{Is, Bad}
 use Rattle.fields.specs.Fields.{asField, kindOf}
 use Rattle.lines.specs.Fields.{tabFrom, following}
-use Rattle.lines.specs.Tables.{formAt, shapeOf, lowered, madeBy}
+use Rattle.lines.specs.Tables.{calls, formAt, shapeOf, lowered, madeBy}
 use Rattle.lines.proofs.Cuts.{fields-at, following-at}
 use Rattle.lines.proofs.Values.{lowered-is}
 use Rattle.fields.proofs.Spelling.{as-is, as-bad}
-use Rattle.lines.proofs.Tables.{few-fields, shape-none, shape-first, shape-rest}
+use Rattle.lines.proofs.Tables.{enough, few-fields, shape-none, shape-first, shape-rest}
 use Rattle.model.specs.declared.Request.{Request}
 use Rattle.model.specs.declared.Request.the-variants.{NotRead}
 use Rattle.model.specs.Lines.{Spelt, is, makeBy, Values, values, unread, andThen, FieldKind, fieldOf, readFields}
@@ -39,17 +40,15 @@ after-one vs v (values ns) = ap values (sym (append-assoc vs (v ∷ []) ns))
 -- field ended at e.
 pub record Taken (l : List ℕ) (ks : List FieldKind) (first : ℕ) (v : List ℕ) (shape e k : ℕ) : Type 0 where
   pub inside : e ≤ length l
-  pub few : length ks ≤ 6
-  pub room : length v ≡ 6
+  pub room : length ks ≤ length v
   pub kinds : shape ≡ shapeOf (drop k ks)
   pub most : k ≤ length ks
   pub whole : readFields ks (following (drop first l)) ≡ after (take k v) (readFields (drop k ks) (following (drop e l)))
 
-pub taken-none : (l : List ℕ) (p first shape : ℕ) → p < 14 → first ≤ length l → shape ≡ shapeOf (formAt p .kinds) → Taken l (formAt p .kinds) first (replicate 6 0) shape first 0
-taken-none l p first shape h i s = record {
+pub taken-none : (l : List ℕ) (p first shape : ℕ) (v : List ℕ) → enough (length v) ≡ true → p < calls → first ≤ length l → shape ≡ shapeOf (formAt p .kinds) → Taken l (formAt p .kinds) first v shape first 0
+taken-none l p first shape v n h i s = record {
   inside = i;
-  few = few-fields p h;
-  room = refl;
+  room = few-fields p (length v) n h;
   kinds = s;
   most = omega arith;
   whole = sym (after-none (readFields (formAt p .kinds) (following (drop first l))));
@@ -76,12 +75,12 @@ unfolding makeBy
 none-made m x e = rw e
 
 module _ (l : List ℕ) (ks : List FieldKind) (first : ℕ) (v : List ℕ) (shape e k : ℕ) (t : Taken l ks first v shape e k) where
-  pub taken-room : (shape ≡ 0 → ⊥) → k < 6
-  taken-room n = go (left ks k shape (t .kinds))
+  pub taken-room : (m : ℕ) → (shape ≡ 0 → ⊥) → length v ≡ m → k < m
+  taken-room m n r = go (left ks k shape (t .kinds))
     where
-      go : Left ks k shape → k < 6
+      go : Left ks k shape → k < m
       go (none z _) = absurd (n z)
-      go (more _ _ _ _ _ d) = omega (arith, length-drop k ks, ap length d, t .few)
+      go (more _ _ _ _ _ d) = omega (arith, length-drop k ks, ap length d, t .room)
 
   -- the line ends too soon
   pub taken-short : (m : List ℕ → Request) → (shape ≡ 0 → ⊥) → length l ≤ e → NotRead ≡ makeBy m (readFields ks (following (drop first l)))
@@ -140,15 +139,14 @@ module _ (l : List ℕ) (ks : List FieldKind) (first : ℕ) (v : List ℕ) (shap
     pub taken-turn : (w : ℕ) → r ≡ Is w → f ≤ length l → Taken l ks first (set v k w) (shape / 8) f (k + 1)
     taken-turn w b i = record {
       inside = i;
-      few = t .few;
-      room = length-set v k w ∙ t .room;
+      room = omega (arith, length-set v k w, t .room);
       kinds = next .1;
       most = omega (arith, next .0);
       whole =
           t .whole
           ∙ ap (after (take k v)) (next .2 ∙ ap (λ s. andThen s rest) (as-is field w (sym p ∙ b)))
           ∙ after-one (take k v) w rest
-          ∙ ap (λ x. after x rest) (sym (ap (λ j. take j (set v k w)) (add-one k) ∙ take-suc-set v k w (omega (arith, next .0, t .few, t .room))));
+          ∙ ap (λ x. after x rest) (sym (ap (λ j. take j (set v k w)) (add-one k) ∙ take-suc-set v k w (omega (arith, next .0, t .room))));
     }
 
 pub taken-made : (l : List ℕ) (p first : ℕ) (v : List ℕ) (shape e k : ℕ) (r : Request) → Taken l (formAt p .kinds) first v shape e k → shape ≡ 0 → length l ≤ e → r ≡ madeBy p v

@@ -14,7 +14,7 @@ use Rattle.lists.proofs.Places.{every-at, lowest-holds, lowest-least}
 use Rattle.model.specs.declared.Request.the-variants.{NotRead}
 use Rattle.model.specs.Lines.{is, bad, spelt, noBlank, packed, packedName, nameField, Form, forms, sameBytes, makeBy, readFields, readBy}
 use Rattle.fields.proofs.Turns.{Bytes}
-use Rattle.lines.specs.Tables.{formAt, callNames, placeOf}
+use Rattle.lines.specs.Tables.{calls, noForm, formAt, callNames, placeOf}
 use Rattle.fields.proofs.Spelling.{spelt-is}
 
 -- two names of bytes that are the same number are the same name
@@ -98,15 +98,15 @@ wordTest : ℕ → Bool
 wordTest i =
     both (both (nameTest (formAt i .word)) (allBytes (formAt i .word))) (eqb (getD callNames i 0) (packedName (formAt i .word)))
 
-words-pass : every wordTest 14 ≡ true
+words-pass : every wordTest calls ≡ true
 unfolding wordTest every allFrom both allBytes forms callNames packedName packed noBlank
 words-pass = refl
 
-word-at : (i : ℕ) → i < 14 → (Name (formAt i .word)) × (getD callNames i 0 ≡ packedName (formAt i .word))
+word-at : (i : ℕ) → i < calls → (Name (formAt i .word)) × (getD callNames i 0 ≡ packedName (formAt i .word))
 unfolding wordTest
 word-at i h =
     let w = formAt i .word in
-    let t = every-at wordTest 14 words-pass i h in
+    let t = every-at wordTest calls words-pass i h in
     let n = both-left (both (nameTest w) (allBytes w)) _ t in
     (record { test = both-left (nameTest w) (allBytes w) n; bytes = bytes-of w (both-right (nameTest w) (allBytes w) n) }, eqb-true (getD callNames i 0) (packedName w) (both-right (both (nameTest w) (allBytes w)) _ t))
 
@@ -133,18 +133,18 @@ same-self [] = refl
 same-self (a ∷ f) = both-intro (eqb a a) (sameBytes f f) (eq-eqb a a refl) (same-self f)
 
 -- The i-th form is the call that a good name names where the table has the name's number.
-word-yes : (i : ℕ) (w : List ℕ) (v : ℕ) → i < 14 → Bytes w → nameField w ≡ is v → eqb (getD callNames i 0) v ≡ true → sameBytes (formAt i .word) w ≡ true
+word-yes : (i : ℕ) (w : List ℕ) (v : ℕ) → i < calls → Bytes w → nameField w ≡ is v → eqb (getD callNames i 0) v ≡ true → sameBytes (formAt i .word) w ≡ true
 word-yes i w v h k e y =
     let n = good-name w v k e in
     let f = word-at i h in
     let q = name-same (formAt i .word) w (f .0) (n .0) (sym (f .1) ∙ eqb-true (getD callNames i 0) v y ∙ sym (n .1)) in
     ap (λ x. sameBytes x w) q ∙ same-self w
 
-word-no : (i : ℕ) (w : List ℕ) (v : ℕ) → i < 14 → Bytes w → nameField w ≡ is v → eqb (getD callNames i 0) v ≡ false → sameBytes (formAt i .word) w ≡ false
+word-no : (i : ℕ) (w : List ℕ) (v : ℕ) → i < calls → Bytes w → nameField w ≡ is v → eqb (getD callNames i 0) v ≡ false → sameBytes (formAt i .word) w ≡ false
 word-no i w v h k e n =
     not-so _ (λ y. eqb-false (getD callNames i 0) v n (word-at i h .1 ∙ ap packedName (same-bytes (formAt i .word) w y) ∙ good-name w v k e .1))
 
-word-bad : (i : ℕ) (w : List ℕ) → i < 14 → nameField w ≡ bad → sameBytes (formAt i .word) w ≡ false
+word-bad : (i : ℕ) (w : List ℕ) → i < calls → nameField w ≡ bad → sameBytes (formAt i .word) w ≡ false
 word-bad i w h e =
     not-so _ (λ y.
     let q = ap nameField (same-bytes (formAt i .word) w y) ∙ e in
@@ -153,34 +153,28 @@ word-bad i w h e =
     omega arith)
 
 -- the first form whose word it is
-abbrev no-form : Form
-no-form = record { word = []; kinds = []; make = λ v. NotRead }
-
-read-here : (fs : List Form) (p : ℕ) (w : List ℕ) (xs : List (List ℕ)) → p < length fs → ((i : ℕ) → i < p → sameBytes (getD fs i no-form .word) w ≡ false) → sameBytes (getD fs p no-form .word) w ≡ true
-    → readBy fs w xs ≡ makeBy (getD fs p no-form .make) (readFields (getD fs p no-form .kinds) xs)
+read-here : (fs : List Form) (p : ℕ) (w : List ℕ) (xs : List (List ℕ)) → p < length fs → ((i : ℕ) → i < p → sameBytes (getD fs i noForm .word) w ≡ false) → sameBytes (getD fs p noForm .word) w ≡ true
+    → readBy fs w xs ≡ makeBy (getD fs p noForm .make) (readFields (getD fs p noForm .kinds) xs)
 unfolding readBy
 read-here [] p w xs h f y = absurd (omega arith)
 read-here (g ∷ fs) zero w xs h f y = yes! _ _ y
 read-here (g ∷ fs) (suc p) w xs h f y = no! _ _ (f 0 (omega arith)) ∙ read-here fs p w xs (omega arith) (λ i l. f (suc i) (omega arith)) y
 
-read-none : (fs : List Form) (w : List ℕ) (xs : List (List ℕ)) → ((i : ℕ) → i < length fs → sameBytes (getD fs i no-form .word) w ≡ false) → readBy fs w xs ≡ NotRead
+read-none : (fs : List Form) (w : List ℕ) (xs : List (List ℕ)) → ((i : ℕ) → i < length fs → sameBytes (getD fs i noForm .word) w ≡ false) → readBy fs w xs ≡ NotRead
 unfolding readBy
 read-none [] w xs f = refl
 read-none (g ∷ fs) w xs f = no! _ _ (f 0 (omega arith)) ∙ read-none fs w xs (λ i l. f (suc i) (omega arith))
 
 -- which form a first field picks, from what was read of it
 pub read-unnamed : (w : List ℕ) (xs : List (List ℕ)) → nameField w ≡ bad → readBy forms w xs ≡ NotRead
-unfolding forms
 read-unnamed w xs e = read-none forms w xs (λ i h. word-bad i w h e)
 
-pub read-unknown : (w : List ℕ) (xs : List (List ℕ)) (v : ℕ) → Bytes w → nameField w ≡ is v → 14 ≤ placeOf v → readBy forms w xs ≡ NotRead
-unfolding forms
-read-unknown w xs v k e h = read-none forms w xs (λ i l. word-no i w v l k e (lowest-least (λ j. eqb (getD callNames j 0) v) 14 i (omega arith)))
+pub read-unknown : (w : List ℕ) (xs : List (List ℕ)) (v : ℕ) → Bytes w → nameField w ≡ is v → calls ≤ placeOf v → readBy forms w xs ≡ NotRead
+read-unknown w xs v k e h = read-none forms w xs (λ i l. word-no i w v l k e (lowest-least (λ j. eqb (getD callNames j 0) v) calls i (omega arith)))
 
-pub read-known : (w : List ℕ) (xs : List (List ℕ)) (v : ℕ) → Bytes w → nameField w ≡ is v → placeOf v < 14
+pub read-known : (w : List ℕ) (xs : List (List ℕ)) (v : ℕ) → Bytes w → nameField w ≡ is v → placeOf v < calls
     → readBy forms w xs ≡ makeBy (formAt (placeOf v) .make) (readFields (formAt (placeOf v) .kinds) xs)
-unfolding forms
 read-known w xs v k e h =
     read-here forms (placeOf v) w xs h
-    (λ i l. word-no i w v (omega arith) k e (lowest-least (λ j. eqb (getD callNames j 0) v) 14 i l))
-    (word-yes (placeOf v) w v h k e (lowest-holds (λ j. eqb (getD callNames j 0) v) 14 h))
+    (λ i l. word-no i w v (omega arith) k e (lowest-least (λ j. eqb (getD callNames j 0) v) calls i l))
+    (word-yes (placeOf v) w v h k e (lowest-holds (λ j. eqb (getD callNames j 0) v) calls h))

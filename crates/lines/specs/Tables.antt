@@ -2,7 +2,7 @@
 use Prim.Native.Nat.{ℕ, _+_, _*_, _%_}
 use mathlib.Core.List.{List, [], _∷_, map}
 use lib.Dec.{eqb}
-use lib.ListN.{getD}
+use lib.ListN.{length, getD}
 use Rattle.lists.specs.Places.{lowest}
 use Rattle.model.specs.declared.Operation.{Operation}
 use Rattle.model.specs.declared.Request.{Request}
@@ -10,9 +10,16 @@ use Rattle.model.specs.declared.Request.the-variants.{Call, NotRead}
 use Rattle.model.specs.Lines.{Form, forms, FieldKind, number, name, right, hex, packedName, at}
 use Rattle.fields.specs.Fields.{kindNumber}
 
--- the forms by number; none at 14 and above
+-- how many names a line may begin with
+abbrev pub calls : ℕ
+calls = length forms
+
+-- the forms by number, from 0 on; past the last, one that reads nothing
+abbrev pub noForm : Form
+noForm = record { word = []; kinds = []; make = λ v. NotRead }
+
 abbrev pub formAt : ℕ → Form
-formAt p = getD forms p (record { word = []; kinds = []; make = λ v. NotRead })
+formAt p = getD forms p noForm
 
 -- the kinds of a call's fields as octal digits, the first the lowest
 unfoldable pub shapeOf : List FieldKind → ℕ
@@ -25,9 +32,9 @@ callNames = map (λ f. packedName (f .word)) forms
 unfoldable pub callShapes : List ℕ
 callShapes = map (λ f. shapeOf (f .kinds)) forms
 
--- the number of the call that a packed name names, or 14
+-- the number of the call that a packed name names, or how many there are
 abbrev pub placeOf : ℕ → ℕ
-placeOf n = lowest (λ i. eqb (getD callNames i 0) n) 14
+placeOf n = lowest (λ i. eqb (getD callNames i 0) n) calls
 
 -- The code holds every value in 64 bits, and takes the lower 32 of what is a number or a count.
 unfoldable pub low : FieldKind → ℕ → ℕ

@@ -7,7 +7,7 @@ ghost use lib.ListN.{length, drop};
 ghost use Rattle.lists.specs.Bytes.{over};
 ghost use Rattle.model.specs.Lines.{fields, readFields, makeBy, rightOf, readLine, stores, dataOf};
 ghost use Rattle.lines.specs.Fields.{tabFrom, following, later};
-ghost use Rattle.lines.specs.Tables.{formAt, shapeOf, callNames, callShapes, placeOf, askedBy, madeBy};
+ghost use Rattle.lines.specs.Tables.{calls, formAt, shapeOf, callNames, callShapes, placeOf, askedBy, madeBy};
 use fields::Field;
 use model::Call;
 use model::Caller;
@@ -15,6 +15,12 @@ use model::Operation;
 use model::Request;
 use model::Right;
 use model::Settings;
+
+// How many names a line may begin with.
+const CALLS: usize = 14;
+
+// The most fields that follow a name.
+const MOST_FIELDS: usize = 6;
 
 // The place of the first tab at or after `from`, or the line's length.
 fn field_end(line: &[u8], from: usize) -> usize
@@ -26,7 +32,7 @@ fn field_end(line: &[u8], from: usize) -> usize
 
 // The calls' names, each as one number. A table that is indexed in a loop is built before it: a constant that is indexed is
 // built anew at each use.
-fn call_names() -> [u64; 14]
+fn call_names() -> [u64; CALLS]
     ensures { λ r. ⌜ r ≡ callNames ⌝ }
 {
     [
@@ -48,7 +54,7 @@ fn call_names() -> [u64; 14]
 }
 
 // The kinds of each call's fields, three bits a field, the first lowest: 1 a number, 2 a name, 3 a right, 4 data.
-fn call_shapes() -> [u64; 14]
+fn call_shapes() -> [u64; CALLS]
     ensures { λ r. ⌜ r ≡ callShapes ⌝ }
 {
     [
@@ -69,13 +75,13 @@ fn call_shapes() -> [u64; 14]
     ]
 }
 
-// The number of the call that a packed name names, or 14.
+// The number of the call that a packed name names, or how many there are.
 fn call_place(word: u64) -> usize
-    ensures { λ r. ⌜ (r ≡ placeOf word) × (r ≤ 14) ⌝ }
+    ensures { λ r. ⌜ r ≡ placeOf word ⌝ }
 {
     let names = call_names();
     let mut i: usize = 0;
-    while i < 14 {
+    while i < CALLS {
         if names[i] == word {
             return i;
         }
@@ -108,7 +114,7 @@ fn asked(guest: u32, operation: Operation, length: u32) -> Request
 }
 
 // Only the lower 32 bits of a number are taken: a number that was read has no others.
-fn make(place: usize, v: [u64; 6]) -> Request
+fn make(place: usize, v: [u64; MOST_FIELDS]) -> Request
     ensures { λ r. ⌜ r ≡ madeBy place v ⌝ }
 {
     let a = (v[0] % 4294967296) as u32;
@@ -200,10 +206,10 @@ fn make(place: usize, v: [u64; 6]) -> Request
 
 // The fields after the call's name, which ends at `first`.
 fn arguments(line: &[u8], place: usize, shape: u64, first: usize) -> Request
-    requires { ⌜ (place < 14) × (shape ≡ shapeOf (formAt place .kinds)) × (first ≤ length (now line)) ⌝ }
+    requires { ⌜ (place < calls) × (shape ≡ shapeOf (formAt place .kinds)) × (first ≤ length (now line)) ⌝ }
     ensures { λ r. ⌜ r ≡ makeBy (formAt place .make) (readFields (formAt place .kinds) (following (drop first (now (line .entry))))) ⌝ }
 {
-    let mut values = [0u64; 6];
+    let mut values = [0u64; MOST_FIELDS];
     let mut kinds = shape;
     let mut end = first;
     let mut k: usize = 0;
@@ -238,7 +244,7 @@ fn read(line: &[u8]) -> Request
         return Request::NotRead;
     };
     let place = call_place(word);
-    if 14 <= place {
+    if CALLS <= place {
         return Request::NotRead;
     }
     let shapes = call_shapes();

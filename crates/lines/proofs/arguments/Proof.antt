@@ -1,6 +1,9 @@
 -- `lines::arguments` meets its contract.
-use Prim.Native.Nat.{_<_}
-use native.Mathlib.Omega.{arith}
+use mathlib.Core.Path.{_≡_, refl}
+use lib.ListN.{length, length-set}
+use Rattle.lists.specs.Choice.{both}
+use Rattle.lists.specs.Places.{every, allFrom}
+use Rattle.model.specs.Lines.{forms}
 use Rattle.lines.specs.Tables.{formAt}
 use Rattle.lines.proofs.Taken.{Taken, taken-none, taken-room, taken-short, taken-over, taken-bad, taken-turn, taken-made}
 use borrow.Author.Needs.{needs}
@@ -8,13 +11,14 @@ use Rattle.lines.proofs.arguments.Statement.{statement}
 use Rattle.lines.proofs.arguments.Tie as tie
 
 abbrev Inv-loop : tie.InvT-loop
-Inv-loop line place shape first values₀ kinds₀ end₀ k₀ values kinds end k = (place < 14) × Taken line (formAt place .kinds) first values kinds end k
+Inv-loop line place shape first values₀ kinds₀ end₀ k₀ values kinds end k = (length values ≡ length values₀) × Taken line (formAt place .kinds) first values kinds end k
 
 abbrev μ-loop : tie.MeasureT-loop
 μ-loop line place shape first values₀ kinds₀ end₀ k₀ values kinds end k = kinds
 
 loop-holds : tie.Need-loop-holds Inv-loop μ-loop
-loop-holds c = (omega arith, search taken-none)
+unfolding forms every allFrom both
+loop-holds c = (refl, search taken-none)
 
 returns : tie.Need-returns Inv-loop μ-loop
 returns c = search taken-short
@@ -63,7 +67,7 @@ loop-again c =
     let in-loop = c .before .before .before .before .before .before .before in
     let end = c .before .before .before .before .before .field-end .ensures in
     let read = c .before .before .before .read-field .ensures in
-    (omega arith, taken-turn _ _ _ _ _ _ _ (in-loop .before .loop .inv .1) (in-loop .loop-test .taken) (c .before .before .before .before .before .before .if1 .left) _ (end .0) _ read _ (c .before .v .given .1) (end .2))
+    (simp length-set (in-loop .before .loop .inv .0), taken-turn _ _ _ _ _ _ _ (in-loop .before .loop .inv .1) (in-loop .loop-test .taken) (c .before .before .before .before .before .before .if1 .left) _ (end .0) _ read _ (c .before .v .given .1) (end .2))
 
 returns-3 : tie.Need-returns-3 Inv-loop μ-loop
 returns-3 c = search taken-over

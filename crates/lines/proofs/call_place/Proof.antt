@@ -6,22 +6,24 @@ use lib.Dec.{eqb}
 use lib.ListN.{getD}
 use Rattle.lists.specs.Places.{lowestFrom}
 use Rattle.lists.proofs.Rules.{loops}
-use Rattle.lines.specs.Tables.{placeOf}
+use Rattle.model.specs.Lines.{forms}
+use Rattle.lines.specs.Tables.{calls, placeOf}
 use Rattle.lines.proofs.Tables.{place-from}
 use borrow.Author.Needs.{needs}
 use Rattle.lines.proofs.call_place.Statement.{statement}
 use Rattle.lines.proofs.call_place.Tie as tie
 
 abbrev Inv-loop : tie.InvT-loop
-Inv-loop word names i₀ i = (i ≤ 14) × (placeOf word ≡ lowestFrom (λ k. eqb (getD names k 0) word) i (14 - i))
+Inv-loop word names i₀ i = (i ≤ calls) × (placeOf word ≡ lowestFrom (λ k. eqb (getD names k 0) word) i (calls - i))
 
 abbrev μ-loop : tie.MeasureT-loop
-μ-loop word names i₀ i = 14 - i
+μ-loop word names i₀ i = calls - i
 
 call-names-requires : tie.Need-call-names-requires Inv-loop μ-loop
 call-names-requires c κs = search needs
 
 loop-holds : tie.Need-loop-holds Inv-loop μ-loop
+unfolding forms
 loop-holds c = (omega arith, place-from _ _ (c .call-names .ensures))
 
 mul-if1 : tie.Need-mul-if1 Inv-loop μ-loop
@@ -31,18 +33,22 @@ array-read-if1 : tie.Need-array-read-if1 Inv-loop μ-loop
 array-read-if1 c = search needs
 
 returns : tie.Need-returns Inv-loop μ-loop
+unfolding forms
 returns c = search loops
 
 add-i : tie.Need-add-i Inv-loop μ-loop
 add-i c = search needs
 
 loop-less : tie.Need-loop-less Inv-loop μ-loop
+unfolding forms
 loop-less c = search needs
 
 loop-again : tie.Need-loop-again Inv-loop μ-loop
+unfolding forms
 loop-again c = search loops
 
 returns-2 : tie.Need-returns-2 Inv-loop μ-loop
+unfolding forms
 returns-2 c = search loops
 
 pub call-place-spec : {M : Type 1} → statement M

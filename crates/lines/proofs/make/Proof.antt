@@ -3,7 +3,7 @@ use native.Mathlib.Omega.{arith}
 use mathlib.Core.Path.{refl}
 use Rattle.model.specs.Lines.{forms}
 use Rattle.lines.specs.Tables.{low, lowered, madeBy}
-use Rattle.lines.proofs.Tables.{made, made-none}
+use Rattle.lines.proofs.Tables.{made, NoneBelow, made-none}
 use borrow.Author.Needs.{needs}
 use Rattle.lines.proofs.make.Statement.{statement}
 use Rattle.lines.proofs.make.Tie as tie
@@ -144,7 +144,8 @@ returns-14 : tie.Need-returns-14
 returns-14 c = made _ 13 _ _ (omega arith) (unfold forms lowered low madeBy in rw (c .asked13 .ensures))
 
 returns-15 : tie.Need-returns-15
-returns-15 c = search made-none
+unfolding forms NoneBelow
+returns-15 c = made-none _ _ (c .match .rest)
 
 pub make-spec : {M : Type 1} → statement M
 make-spec =

@@ -1,4 +1,5 @@
 -- `lines::read` meets its contract.
+use Rattle.model.specs.Lines.{forms}
 use Rattle.lines.proofs.Tables.{shape-of}
 use Rattle.lines.proofs.Line.{line-long, line-unnamed, line-unknown, line-known}
 use borrow.Author.Needs.{needs}
@@ -36,6 +37,7 @@ call-place-requires : tie.Need-call-place-requires
 call-place-requires c κs = search needs
 
 returns-3 : tie.Need-returns-3
+unfolding forms
 returns-3 c = search line-unknown
 
 call-shapes-requires : tie.Need-call-shapes-requires
@@ -48,9 +50,11 @@ array-read-arguments : tie.Need-array-read-arguments
 array-read-arguments c = search needs
 
 arguments-requires : tie.Need-arguments-requires
+unfolding forms
 arguments-requires c κs = (search needs, search shape-of, search needs)
 
 returns-4 : tie.Need-returns-4
+unfolding forms
 returns-4 c = search line-known
 
 pub read-spec : {M : Type 1} → statement M
