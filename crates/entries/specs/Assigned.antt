@@ -5,8 +5,7 @@ use mathlib.Core.Bool.{Bool, not}
 use lib.Dec.{leb, eqb}
 use Rattle.lists.specs.Choice.{both}
 use Rattle.model.specs.declared.Entry.{Entry}
-use Rattle.model.specs.Searches.{isUnused}
-use Rattle.model.specs.Tokens.{entryNumber, upperHalf}
+use Rattle.model.specs.Tokens.{entryNumber, upperHalf, unassigned}
 
 abbrev pub assignedTo : Entry → (list token : ℕ) → Bool
-assignedTo e l t = both (leb (entryNumber t) (l + 1)) (both (not (isUnused (e .standing))) (eqb (e .sequence) (upperHalf t)))
+assignedTo e l t = both (leb (entryNumber t) (l + 1)) (both (not (unassigned (e .standing))) (eqb (e .sequence) (upperHalf t)))

@@ -1,8 +1,8 @@
 // One entry of a list and its token: whether it is in use, and how it becomes unused.
 ghost use mathlib.Core.Path.{_≡_};
 ghost use Rattle.model.specs.Changes.{released};
-ghost use Rattle.model.specs.Searches.{isUnused};
-ghost use Rattle.model.specs.Tokens.{malformed};
+ghost use Rattle.model.specs.Searches.{isUnused, mayTake};
+ghost use Rattle.model.specs.Tokens.{malformed, unassigned};
 ghost use Rattle.entries.specs.Assigned.{assignedTo};
 use model::Entry;
 use model::Standing;
@@ -16,6 +16,19 @@ pub fn is_unused(e: Entry) -> bool
         Standing::Valid { slot: _, right: _ } => false,
         Standing::Revoked => false,
     }
+}
+
+// Whether ADD may take an entry, and whether no token is assigned to it: so far both where it is unused.
+pub fn may_take(e: Entry) -> bool
+    ensures { λ r. ⌜ r ≡ mayTake (e .standing) ⌝ }
+{
+    is_unused(e)
+}
+
+fn is_unassigned(e: Entry) -> bool
+    ensures { λ r. ⌜ r ≡ unassigned (e .standing) ⌝ }
+{
+    is_unused(e)
 }
 
 // An entry that was in use becomes unused, and its sequence goes up, so that no token that was given for it fits again
@@ -56,7 +69,7 @@ pub fn is_assigned(e: Entry, list: u8, token: u32) -> bool
     if list as u32 + 1 < token % 65536 {
         return false;
     }
-    if is_unused(e) {
+    if is_unassigned(e) {
         return false;
     }
     e.sequence as u32 == token / 65536

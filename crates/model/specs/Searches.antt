@@ -74,6 +74,10 @@ isUnused Unused = true
 isUnused (Valid u r) = false
 isUnused Revoked = false
 
+-- whether ADD may take an entry, by its standing
+abbrev pub mayTake : Standing → Bool
+mayTake x = isUnused x
+
 -- "ADD takes the lowest unused entry": its place in a list of L entries, counted from 0; L where there is none
 unfoldable pub freeEntry : List Entry → (guest list : ℕ) → ℕ
-freeEntry es g l = lowest (λ k. isUnused (entryAt es g (k + 2) .standing)) l
+freeEntry es g l = lowest (λ k. mayTake (entryAt es g (k + 2) .standing)) l

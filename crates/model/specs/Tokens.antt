@@ -7,6 +7,7 @@ use lib.Dec.{leb, ltb, eqb}
 use Rattle.lists.specs.Choice.{choose, both, either}
 use Rattle.model.specs.declared.Cpu.{Cpu}
 use Rattle.model.specs.declared.Entry.{Entry}
+use Rattle.model.specs.declared.Standing.{Standing}
 use Rattle.model.specs.Searches.{isUnused}
 use Rattle.model.specs.Tables.{entryAt}
 
@@ -26,11 +27,15 @@ unfoldable pub malformed : (token : ℕ) → Bool
 malformed t =
     both (not (eqb t 0)) (either (leb 16777216 t) (either (ltb (entryNumber t) 2) (ltb 31 (entryNumber t))))
 
+-- whether no token is assigned to an entry, by its standing
+abbrev pub unassigned : Standing → Bool
+unassigned x = isUnused x
+
 -- "Not assigned: entry number above L+1, entry unused, or another sequence."
 unfoldable pub assigned : List Entry → (guest list token : ℕ) → Bool
 assigned es g l t =
     both (leb (entryNumber t) (l + 1))
-    (both (not (isUnused (entryAt es g (entryNumber t) .standing))) (eqb (entryAt es g (entryNumber t) .sequence) (upperHalf t)))
+    (both (not (unassigned (entryAt es g (entryNumber t) .standing))) (eqb (entryAt es g (entryNumber t) .sequence) (upperHalf t)))
 
 -- "In primary mode, and for register 0 in either mode, the token used is 0 whatever was loaded. Otherwise it is the
 -- register's value."

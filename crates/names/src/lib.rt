@@ -1,3 +1,4 @@
+// The form of a name, tested quickly.
 ghost use mathlib.Core.Path.{_≡_};
 ghost use Prim.Native.Nat.{_<_};
 ghost use Rattle.model.specs.Names.{nameRest, goodName};

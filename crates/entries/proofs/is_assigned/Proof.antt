@@ -10,8 +10,8 @@ add-if1 c = search needs
 returns : tie.Need-returns
 returns c = search (tests, calls) depth 8
 
-is-unused-requires : tie.Need-is-unused-requires
-is-unused-requires c κs = search needs
+is-unassigned-requires : tie.Need-is-unassigned-requires
+is-unassigned-requires c κs = search needs
 
 returns-2 : tie.Need-returns-2
 returns-2 c = search (tests, calls) depth 8
@@ -24,4 +24,4 @@ returns-3 c = search (tests, calls) depth 8
 
 pub is-assigned-spec : {M : Type 1} → statement M
 is-assigned-spec =
-    tie.close (tie.spec add-if1 returns is-unused-requires returns-2 cast-result returns-3)
+    tie.close (tie.spec add-if1 returns is-unassigned-requires returns-2 cast-result returns-3)
