@@ -113,14 +113,17 @@ fn asked(guest: u32, operation: Operation, length: u32) -> Request
     }
 }
 
-// Only the lower 32 bits of a number are taken: a number that was read has no others.
+// Only the lower 32 bits of a number are taken: a number that was read has no others. Names and rights are taken whole.
 fn make(place: usize, v: [u64; MOST_FIELDS]) -> Request
     ensures { λ r. ⌜ r ≡ madeBy place v ⌝ }
 {
+    let second = v[1];
+    let third = v[2];
+    let fourth = v[3];
     let a = (v[0] % 4294967296) as u32;
-    let b = (v[1] % 4294967296) as u32;
-    let c = (v[2] % 4294967296) as u32;
-    let d = (v[3] % 4294967296) as u32;
+    let b = (second % 4294967296) as u32;
+    let c = (third % 4294967296) as u32;
+    let d = (fourth % 4294967296) as u32;
     let e = (v[4] % 4294967296) as u32;
     let f = (v[5] % 4294967296) as u32;
     match place {
@@ -141,7 +144,7 @@ fn make(place: usize, v: [u64; MOST_FIELDS]) -> Request
         2 => asked(
             a,
             Operation::Create {
-                name: v[1],
+                name: second,
                 pages: c,
             },
             0,
@@ -152,7 +155,7 @@ fn make(place: usize, v: [u64; MOST_FIELDS]) -> Request
             Operation::Permit {
                 id: b,
                 guest: c,
-                right: right_of(v[3]),
+                right: right_of(fourth),
             },
             0,
         ),
@@ -161,7 +164,7 @@ fn make(place: usize, v: [u64; MOST_FIELDS]) -> Request
             a,
             Operation::Query {
                 owner: b,
-                name: v[2],
+                name: third,
             },
             0,
         ),
@@ -169,7 +172,7 @@ fn make(place: usize, v: [u64; MOST_FIELDS]) -> Request
             a,
             Operation::Add {
                 id: b,
-                right: right_of(v[2]),
+                right: right_of(third),
             },
             0,
         ),

@@ -8,26 +8,26 @@ use borrow.Author.Needs.{needs}
 use Rattle.lines.proofs.make.Statement.{statement}
 use Rattle.lines.proofs.make.Tie as tie
 
+array-read-second : tie.Need-array-read-second
+array-read-second c = search needs
+
+array-read-third : tie.Need-array-read-third
+array-read-third c = search needs
+
+array-read-fourth : tie.Need-array-read-fourth
+array-read-fourth c = search needs
+
 array-read-a : tie.Need-array-read-a
 array-read-a c = search needs
 
 cast-a : tie.Need-cast-a
 cast-a c = search needs
 
-array-read-b : tie.Need-array-read-b
-array-read-b c = search needs
-
 cast-b : tie.Need-cast-b
 cast-b c = search needs
 
-array-read-c : tie.Need-array-read-c
-array-read-c c = search needs
-
 cast-c : tie.Need-cast-c
 cast-c c = search needs
-
-array-read-d : tie.Need-array-read-d
-array-read-d c = search needs
 
 cast-d : tie.Need-cast-d
 cast-d c = search needs
@@ -47,17 +47,11 @@ cast-f c = search needs
 asked-requires : tie.Need-asked-requires
 asked-requires c κs = search needs
 
-array-read-t29 : tie.Need-array-read-t29
-array-read-t29 c = search needs
-
 asked-requires-2 : tie.Need-asked-requires-2
 asked-requires-2 c κs = search needs
 
 asked-requires-3 : tie.Need-asked-requires-3
 asked-requires-3 c κs = search needs
-
-array-read-right-of : tie.Need-array-read-right-of
-array-read-right-of c = search needs
 
 right-of-requires : tie.Need-right-of-requires
 right-of-requires c κs = search needs
@@ -68,14 +62,8 @@ asked-requires-4 c κs = search needs
 asked-requires-5 : tie.Need-asked-requires-5
 asked-requires-5 c κs = search needs
 
-array-read-t40 : tie.Need-array-read-t40
-array-read-t40 c = search needs
-
 asked-requires-6 : tie.Need-asked-requires-6
 asked-requires-6 c κs = search needs
-
-array-read-right-of-2 : tie.Need-array-read-right-of-2
-array-read-right-of-2 c = search needs
 
 right-of-requires-2 : tie.Need-right-of-requires-2
 right-of-requires-2 c κs = search needs
@@ -151,29 +139,25 @@ pub make-spec : {M : Type 1} → statement M
 make-spec =
     tie.close
     (tie.spec
+    array-read-second
+    array-read-third
+    array-read-fourth
     array-read-a
     cast-a
-    array-read-b
     cast-b
-    array-read-c
     cast-c
-    array-read-d
     cast-d
     array-read-e
     cast-e
     array-read-f
     cast-f
     asked-requires
-    array-read-t29
     asked-requires-2
     asked-requires-3
-    array-read-right-of
     right-of-requires
     asked-requires-4
     asked-requires-5
-    array-read-t40
     asked-requires-6
-    array-read-right-of-2
     right-of-requires-2
     asked-requires-7
     asked-requires-8
