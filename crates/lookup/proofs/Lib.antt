@@ -1,3 +1,4 @@
 pub mod Lists
 pub mod Counting
 pub mod Rules
+pub mod Owning

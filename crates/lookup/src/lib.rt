@@ -4,6 +4,8 @@ ghost use mathlib.Core.Path.{_≡_};
 ghost use Rattle.lists.specs.Choice.{choose};
 ghost use Rattle.model.specs.Leaves.{callerPlace};
 ghost use Rattle.model.specs.Searches.{slotOf, slotNamed, freeSlot, dataSpaces, freeEntry};
+ghost use Rattle.lookup.specs.Owned.{ownedSpace};
+use model::Answer;
 use model::Entry;
 use model::Guest;
 use model::Space;
@@ -38,6 +40,28 @@ pub fn find_space(spaces: [Space; 32], id: u32) -> usize
         u += 1;
     }
     u
+}
+
+// A space that a guest names by its identification, as its owner alone may.
+pub enum Owned {
+    At { slot: u8 },
+    Refused(Answer),
+}
+
+// The checks 5 and 6.
+pub fn owned_space(spaces: [Space; 32], guest: u32, id: u32) -> Owned
+    ensures { λ r. ⌜ r ≡ ownedSpace spaces guest id ⌝ }
+{
+    let u = find_space(spaces, id);
+    if 32 <= u {
+        return Owned::Refused(Answer::NoSpace);
+    }
+    let x = spaces[u];
+    if x.owner as u32 != guest {
+        return Owned::Refused(Answer::NotOwner);
+    }
+    let slot = u as u8;
+    Owned::At { slot }
 }
 
 // The slot of the live space with that owner and name.

@@ -12,53 +12,38 @@ use Rattle.lists.specs.Choice.{choose, either}
 use Rattle.lists.proofs.Choice.{true-or-false, not-so, yes!, no!, both-left, both-yes, both-not, both-comm}
 use Rattle.lists.proofs.Rules.{not-no, not-yes, test-no, test-yes, and-true, and-false, and-late, zero-leb, pos-leb}
 use Rattle.model.specs.declared.Answer.{Answer}
-use Rattle.model.specs.declared.Answer.the-variants.{BadCaller}
 use Rattle.model.specs.declared.Call.{Call}
 use Rattle.model.specs.declared.Caller.{Caller}
 use Rattle.model.specs.declared.Guest.{Guest}
-use Rattle.model.specs.declared.Operation.{Operation}
 use Rattle.model.specs.declared.Reply.{Reply}
 use Rattle.model.specs.declared.Right.{Right}
+use Rattle.model.specs.declared.Space.{Space}
 use Rattle.model.specs.declared.State.{State}
-use Rattle.model.specs.Arguments.{goodOther, arguments, checkAll}
-use Rattle.model.specs.Calls.{entitled, enrols, goodCaller, judge, perform}
+use Rattle.model.specs.Arguments.{goodOther}
+use Rattle.model.specs.Calls.{entitled, judge}
 use Rattle.model.specs.Changes.{allows}
-use Rattle.model.specs.Decision.{Decision, check}
 use Rattle.model.specs.Leaves.{callerPlace}
-use Rattle.model.specs.Replies.{reply, replied, callOf}
+use Rattle.model.specs.Replies.{reply, replied}
 use Rattle.model.specs.Searches.{enrolled, freeEntry}
 use Rattle.model.specs.SoundTest.{sound}
 use Rattle.model.specs.Tables.{noGuest, noPermit, unusedEntry, spaceAt, guestAt, guestPlace}
 use Rattle.model.specs.Tokens.{malformed, assigned}
-use Rattle.model.proofs.Rules.{go-on, refuse-at, place-no, place-yes, place-is}
+use Rattle.model.proofs.Rules.{place-yes, place-is}
 use Rattle.model.proofs.Searches.{enrolled-guest}
 use Rattle.model.proofs.SoundTest.{sound-decides}
 use Rattle.model.proofs.Tokens.{formed}
 use Rattle.entries.specs.Assigned.{assignedTo}
+use Rattle.lookup.specs.declared.Owned.{Owned}
+use Rattle.lookup.specs.declared.Owned.the-variants.{At}
+use Rattle.lookup.specs.Owned.{ownedSpace}
+use Rattle.lookup.proofs.Owning.{owned-low}
+use Rattle.lookup.proofs.Rules.{refused-at, good-caller}
 use Rattle.rights.specs.Leaves.{otherPlace}
-
--- a refusal
-pub refused-at : (x : Reply) (s : State) (b : Bool) (a : Answer) (d : Decision) → x ≡ reply a s → b ≡ false → x ≡ replied s (check b a d)
-refused-at x s b a d e n = e ∙ refuse-at s b a d n
 
 -- a call that changes no table returns its answer alone
 pub answered : (x : Answer) (s : State) (k : Call) (n : ℕ) → reply x s ≡ replied s (judge s k n) → x ≡ judge s k n .answer
 unfolding replied
 answered x s k n e = ap (λ (r : Reply). r .answer) e
-
--- check 2: the calls but ENROL ask for an enrolled caller
-module _ (x : Reply) (s : State) (c : Caller) (o : Operation) (n at : ℕ) (plain : enrols o ≡ false) (e : at ≡ callerPlace (s .guests) (c .guest)) where
-  caller-test : goodCaller s c o ≡ enrolled (s .guests) (c .guest)
-  unfolding goodCaller
-  caller-test = no! _ _ plain
-
-  pub bad-caller : 8 ≤ at → x ≡ reply BadCaller s → x ≡ replied s (judge s (callOf c o) n)
-  unfolding judge
-  bad-caller h r = refused-at x s _ _ _ r (caller-test ∙ place-no at (s .guests) (c .guest) e h)
-
-  pub good-caller : at < 8 → x ≡ replied s (checkAll (arguments (s .guests) c o n) (perform s c o n)) → x ≡ replied s (judge s (callOf c o) n)
-  unfolding judge
-  good-caller l r = go-on x s _ _ _ (caller-test ∙ place-yes at (s .guests) (c .guest) e l) r
 
 -- PERMIT's other guest
 module _ (gs : List Guest) (c : Caller) (h : ℕ) where
@@ -134,6 +119,10 @@ module _ (s : State) (gs : List Guest) (at g n : ℕ) (ok : sound s ≡ true) (e
   pub entry-short : (k : ℕ) → k < n → k < 30
   entry-short k h = omega (arith, list-short)
 
+-- the permit of a guest at its place for an owned space
+pub permit-inside : (ss : List Space) (g i u to : ℕ) (o : Owned) → o ≡ ownedSpace ss g i → o ≡ At u → to < 8 → u * 8 + to < 256
+permit-inside ss g i u to o is e l = omega (arith, owned-low ss g i o u is e)
+
 -- the entry number of a token that is well formed
 pub number-low : (t : ℕ) (b : Bool) → (t ≡ 0 → ⊥) → b ≡ malformed t → b ≡ false → 2 ≤ t % 65536
 number-low t b z e n = formed t z (sym e ∙ n) .entry .low
@@ -143,7 +132,7 @@ number-place at t b l z e n = let f = formed t z (sym e ∙ n) .entry in omega a
 
 pub ruleset leaves = (good-caller, refused-at, other-no, other-yes, share-is, entitled-is, assigned-is, room-no, test-no, test-yes)
 
-pub ruleset bounds = (list-short, entry-short, number-low, number-place)
+pub ruleset bounds = (list-short, entry-short, permit-inside, number-low, number-place)
 
 -- QUERY's checks that are two tests in one
 pub ruleset pairs = (and-true, and-false, and-late, zero-leb, pos-leb, le-leb, lt-leb)

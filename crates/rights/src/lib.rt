@@ -7,6 +7,7 @@ ghost use Rattle.model.specs.Replies.{reply, replied, callOf};
 ghost use Rattle.model.specs.SoundTest.{sound};
 ghost use Rattle.model.specs.declared.Operation.the-variants.{Permit as PermitCall, Query, Add, Remove};
 ghost use Rattle.rights.specs.Leaves.{otherPlace, entered};
+use lookup::Owned;
 use model::Answer;
 use model::Caller;
 use model::Entry;
@@ -59,22 +60,19 @@ pub fn permit(mut s: State, caller: Caller, id: u32, guest: u32, right: Right) -
         );
     }
     let ss = s.spaces;
-    let u = lookup::find_space(ss, id);
-    if 32 <= u {
-        return refuse(s, Answer::NoSpace);
-    }
-    let x = ss[u];
-    if x.owner as u32 != caller.guest {
-        return refuse(s, Answer::NotOwner);
-    }
+    let u = match lookup::owned_space(ss, caller.guest, id) {
+        Owned::Refused(refusal) => return refuse(s, refusal),
+        Owned::At { slot } => slot as usize,
+    };
     let g = gs[at];
     if !g.share {
         return refuse(s, Answer::NoSharing);
     }
-    let p = s.permits[u * 8 + to];
+    let place = u * 8 + to;
+    let p = s.permits[place];
     let old = p.grant;
     let grant = permits::raise(old, right);
-    s.permits[u * 8 + to] = Permit { grant };
+    s.permits[place] = Permit { grant };
     Reply {
         answer: Answer::Done { value: 0 },
         state: s,

@@ -12,6 +12,7 @@ ghost use Rattle.model.specs.Replies.{replied, callOf};
 ghost use Rattle.model.specs.SoundTest.{sound};
 ghost use Rattle.model.specs.declared.Operation.the-variants.{Destroy, Isolate, Reset};
 ghost use Rattle.withdrawing.specs.Sets.{IsSet, Sets, ownedSlots, dataSlots, losesTo};
+use lookup::Owned;
 use model::Answer;
 use model::Caller;
 use model::Entry;
@@ -135,20 +136,16 @@ pub fn destroy(s: State, caller: Caller, id: u32) -> Reply
         };
     }
     let spaces = s.spaces;
-    let u = lookup::find_space(spaces, id);
-    if 32 <= u {
-        return Reply {
-            answer: Answer::NoSpace,
-            state: s,
-        };
-    }
+    let u = match lookup::owned_space(spaces, caller.guest, id) {
+        Owned::Refused(refusal) => {
+            return Reply {
+                answer: refusal,
+                state: s,
+            };
+        }
+        Owned::At { slot } => slot as usize,
+    };
     let x = spaces[u];
-    if x.owner as u32 != caller.guest {
-        return Reply {
-            answer: Answer::NotOwner,
-            state: s,
-        };
-    }
     if slots::is_base(x) {
         return Reply {
             answer: Answer::PrimarySpace,
@@ -176,20 +173,15 @@ pub fn isolate(s: State, caller: Caller, id: u32) -> Reply
         };
     }
     let spaces = s.spaces;
-    let u = lookup::find_space(spaces, id);
-    if 32 <= u {
-        return Reply {
-            answer: Answer::NoSpace,
-            state: s,
-        };
-    }
-    let x = spaces[u];
-    if x.owner as u32 != caller.guest {
-        return Reply {
-            answer: Answer::NotOwner,
-            state: s,
-        };
-    }
+    let u = match lookup::owned_space(spaces, caller.guest, id) {
+        Owned::Refused(refusal) => {
+            return Reply {
+                answer: refusal,
+                state: s,
+            };
+        }
+        Owned::At { slot } => slot as usize,
+    };
     let none = [false; 33];
     let one = only(u);
     Reply {

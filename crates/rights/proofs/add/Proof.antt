@@ -3,9 +3,9 @@ use borrow.Author.Needs.{needs}
 use Rattle.model.specs.Arguments.{arguments, checkAll}
 use Rattle.model.specs.Calls.{enrols, perform, add}
 use Rattle.model.proofs.Rules.{checks, places}
-use Rattle.lookup.proofs.Rules.{found}
+use Rattle.lookup.proofs.Rules.{found, bad-caller}
 use Rattle.rights.proofs.Done.{add-done}
-use Rattle.rights.proofs.Rules.{bad-caller, leaves, bounds}
+use Rattle.rights.proofs.Rules.{leaves, bounds}
 use Rattle.rights.proofs.add.Statement.{statement}
 use Rattle.rights.proofs.add.Tie as tie
 

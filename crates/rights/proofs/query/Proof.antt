@@ -3,9 +3,9 @@ use borrow.Author.Needs.{needs}
 use Rattle.model.specs.Arguments.{arguments, checkAll}
 use Rattle.model.specs.Calls.{enrols, perform, query}
 use Rattle.model.proofs.Rules.{checks}
-use Rattle.lookup.proofs.Rules.{found}
+use Rattle.lookup.proofs.Rules.{found, bad-caller}
 use Rattle.rights.proofs.Done.{query-done}
-use Rattle.rights.proofs.Rules.{answered, bad-caller, leaves, pairs}
+use Rattle.rights.proofs.Rules.{answered, leaves, pairs}
 use Rattle.rights.proofs.query.Statement.{statement}
 use Rattle.rights.proofs.query.Tie as tie
 

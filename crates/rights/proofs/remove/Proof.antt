@@ -4,9 +4,9 @@ use Rattle.lists.proofs.Rules.{tests, calls}
 use Rattle.model.specs.Arguments.{arguments, checkAll}
 use Rattle.model.specs.Calls.{enrols, perform, remove}
 use Rattle.model.proofs.Rules.{checks, places}
-use Rattle.lookup.proofs.Rules.{found}
+use Rattle.lookup.proofs.Rules.{found, bad-caller}
 use Rattle.rights.proofs.Done.{remove-done}
-use Rattle.rights.proofs.Rules.{bad-caller, leaves, bounds}
+use Rattle.rights.proofs.Rules.{leaves, bounds}
 use Rattle.rights.proofs.remove.Statement.{statement}
 use Rattle.rights.proofs.remove.Tie as tie
 

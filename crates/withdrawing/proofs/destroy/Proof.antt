@@ -1,12 +1,12 @@
 -- `withdrawing::destroy` meets its contract. Assumes nothing.
-use Rattle.lists.specs.Choice.{choose}
+use borrow.Author.Needs.{needs}
 use Rattle.model.specs.Arguments.{arguments, checkAll}
-use Rattle.lookup.proofs.Rules.{found}
-use Rattle.model.proofs.Rules.{checks, places}
-use Rattle.model.specs.Calls.{judge, goodCaller, enrols, perform, destroy, owning}
+use Rattle.model.specs.Calls.{enrols, perform, destroy}
+use Rattle.model.proofs.Rules.{checks}
+use Rattle.lookup.proofs.Owning.{settling, owned-low, owned-owner}
+use Rattle.lookup.proofs.Rules.{bad-caller, good-caller}
 use Rattle.withdrawing.proofs.Done.{primary-found, destroy-done}
 use Rattle.withdrawing.proofs.Sets.{sets}
-use borrow.Author.Needs.{needs}
 use Rattle.withdrawing.proofs.destroy.Statement.{statement}
 use Rattle.withdrawing.proofs.destroy.Tie as tie
 
@@ -14,44 +14,46 @@ caller-place-requires : tie.Need-caller-place-requires
 caller-place-requires c κs = search needs
 
 returns : tie.Need-returns
-unfolding judge goodCaller enrols choose arguments checkAll perform destroy owning
-returns c = search (checks, places, found) depth 8
+unfolding enrols
+returns c = search bad-caller
 
-find-space-requires : tie.Need-find-space-requires
-find-space-requires c κs = search needs
+owned-space-requires : tie.Need-owned-space-requires
+owned-space-requires c κs = search needs
+
+enum-known-refusal : tie.Need-enum-known-refusal
+enum-known-refusal c = search needs
 
 returns-2 : tie.Need-returns-2
-unfolding judge goodCaller enrols choose arguments checkAll perform destroy owning
-returns-2 c = search (checks, places, found) depth 8
+unfolding enrols arguments checkAll perform destroy
+returns-2 c = search (good-caller, settling) depth 8
+
+enum-known-slot : tie.Need-enum-known-slot
+enum-known-slot c = search needs
+
+cast-u : tie.Need-cast-u
+cast-u c = search needs
 
 mul-x : tie.Need-mul-x
 mul-x c = search needs
 
 array-copy-out-x : tie.Need-array-copy-out-x
-array-copy-out-x c = search needs
-
-cast-if3 : tie.Need-cast-if3
-cast-if3 c = search needs
-
-returns-3 : tie.Need-returns-3
-unfolding judge goodCaller enrols choose arguments checkAll perform destroy owning
-returns-3 c = search (checks, places, found) depth 8
+array-copy-out-x c = search owned-low
 
 is-base-requires : tie.Need-is-base-requires
 is-base-requires c κs = search needs
 
-returns-4 : tie.Need-returns-4
-unfolding judge goodCaller enrols choose arguments checkAll perform destroy owning
-returns-4 c = search (checks, places, found, primary-found) depth 8
+returns-3 : tie.Need-returns-3
+unfolding enrols arguments checkAll perform destroy
+returns-3 c = search (good-caller, settling, checks, primary-found) depth 8
 
 only-requires : tie.Need-only-requires
-only-requires c κs = search needs
+only-requires c κs = search owned-low
 
 withdraw-requires : tie.Need-withdraw-requires
-withdraw-requires c κs = search sets
+withdraw-requires c κs = search (sets, owned-owner)
 
-returns-5 : tie.Need-returns-5
-returns-5 c = search destroy-done
+returns-4 : tie.Need-returns-4
+returns-4 c = search destroy-done
 
 pub destroy-spec : {M : Type 1} → statement M
 destroy-spec =
@@ -59,14 +61,15 @@ destroy-spec =
     (tie.spec
     caller-place-requires
     returns
-    find-space-requires
+    owned-space-requires
+    enum-known-refusal
     returns-2
+    enum-known-slot
+    cast-u
     mul-x
     array-copy-out-x
-    cast-if3
-    returns-3
     is-base-requires
-    returns-4
+    returns-3
     only-requires
     withdraw-requires
-    returns-5)
+    returns-4)

@@ -1,12 +1,11 @@
 -- `withdrawing::isolate` meets its contract. Assumes nothing.
-use Rattle.lists.specs.Choice.{choose}
+use borrow.Author.Needs.{needs}
 use Rattle.model.specs.Arguments.{arguments, checkAll}
-use Rattle.lookup.proofs.Rules.{found}
-use Rattle.model.proofs.Rules.{checks, places}
-use Rattle.model.specs.Calls.{judge, goodCaller, enrols, perform, isolate, owning}
+use Rattle.model.specs.Calls.{enrols, perform, isolate}
+use Rattle.lookup.proofs.Owning.{settling, owned-low, owned-owner}
+use Rattle.lookup.proofs.Rules.{bad-caller, good-caller}
 use Rattle.withdrawing.proofs.Done.{isolate-done}
 use Rattle.withdrawing.proofs.Sets.{sets}
-use borrow.Author.Needs.{needs}
 use Rattle.withdrawing.proofs.isolate.Statement.{statement}
 use Rattle.withdrawing.proofs.isolate.Tie as tie
 
@@ -14,37 +13,33 @@ caller-place-requires : tie.Need-caller-place-requires
 caller-place-requires c κs = search needs
 
 returns : tie.Need-returns
-unfolding judge goodCaller enrols choose arguments checkAll perform isolate owning
-returns c = search (checks, places, found) depth 8
+unfolding enrols
+returns c = search bad-caller
 
-find-space-requires : tie.Need-find-space-requires
-find-space-requires c κs = search needs
+owned-space-requires : tie.Need-owned-space-requires
+owned-space-requires c κs = search needs
+
+enum-known-refusal : tie.Need-enum-known-refusal
+enum-known-refusal c = search needs
 
 returns-2 : tie.Need-returns-2
-unfolding judge goodCaller enrols choose arguments checkAll perform isolate owning
-returns-2 c = search (checks, places, found) depth 8
+unfolding enrols arguments checkAll perform isolate
+returns-2 c = search (good-caller, settling) depth 8
 
-mul-x : tie.Need-mul-x
-mul-x c = search needs
+enum-known-slot : tie.Need-enum-known-slot
+enum-known-slot c = search needs
 
-array-copy-out-x : tie.Need-array-copy-out-x
-array-copy-out-x c = search needs
-
-cast-if3 : tie.Need-cast-if3
-cast-if3 c = search needs
-
-returns-3 : tie.Need-returns-3
-unfolding judge goodCaller enrols choose arguments checkAll perform isolate owning
-returns-3 c = search (checks, places, found) depth 8
+cast-u : tie.Need-cast-u
+cast-u c = search needs
 
 only-requires : tie.Need-only-requires
-only-requires c κs = search needs
+only-requires c κs = search owned-low
 
 withdraw-requires : tie.Need-withdraw-requires
-withdraw-requires c κs = search sets
+withdraw-requires c κs = search (sets, owned-owner)
 
-returns-4 : tie.Need-returns-4
-returns-4 c = search isolate-done
+returns-3 : tie.Need-returns-3
+returns-3 c = search isolate-done
 
 pub isolate-spec : {M : Type 1} → statement M
 isolate-spec =
@@ -52,12 +47,11 @@ isolate-spec =
     (tie.spec
     caller-place-requires
     returns
-    find-space-requires
+    owned-space-requires
+    enum-known-refusal
     returns-2
-    mul-x
-    array-copy-out-x
-    cast-if3
-    returns-3
+    enum-known-slot
+    cast-u
     only-requires
     withdraw-requires
-    returns-4)
+    returns-3)

@@ -1,8 +1,6 @@
 -- `withdrawing::reset` meets its contract. Assumes nothing.
-use Rattle.lists.specs.Choice.{choose}
-use Rattle.model.specs.Arguments.{arguments, checkAll}
-use Rattle.model.proofs.Rules.{checks, places}
-use Rattle.model.specs.Calls.{judge, goodCaller, enrols, perform, reset}
+use Rattle.model.specs.Calls.{enrols}
+use Rattle.lookup.proofs.Rules.{bad-caller}
 use Rattle.withdrawing.proofs.Done.{reset-done}
 use Rattle.withdrawing.proofs.Sets.{sets}
 use borrow.Author.Needs.{needs}
@@ -13,8 +11,8 @@ caller-place-requires : tie.Need-caller-place-requires
 caller-place-requires c κs = search needs
 
 returns : tie.Need-returns
-unfolding judge goodCaller enrols choose arguments checkAll perform reset
-returns c = search (checks, places) depth 8
+unfolding enrols
+returns c = search bad-caller
 
 data-slots-requires : tie.Need-data-slots-requires
 data-slots-requires c κs = search needs

@@ -1,0 +1,71 @@
+-- What `owned_space` answered decides the model's checks 5 and 6, whatever follows them. Assumes nothing.
+use Prim.Native.Nat.{ℕ, _<_}
+use mathlib.Core.List.{List}
+use mathlib.Core.Path.{_≡_, refl, sym, ap, subst, _∙_}
+use lib.Dec.{eqb, ltb}
+use borrow.Author.Tests.{ltb-true, eqb-true}
+use Rattle.lists.proofs.Choice.{choose-elim}
+use Rattle.model.specs.declared.Answer.{Answer}
+use Rattle.model.specs.declared.Answer.the-variants.{NoSpace, NotOwner}
+use Rattle.model.specs.declared.Reply.{Reply}
+use Rattle.model.specs.declared.Space.{Space}
+use Rattle.model.specs.declared.State.{State}
+use Rattle.model.specs.Calls.{owning}
+use Rattle.model.specs.Decision.{Decision, refuse, check}
+use Rattle.model.specs.Replies.{reply, replied}
+use Rattle.model.specs.Searches.{slotOf}
+use Rattle.model.specs.Tables.{spaceAt}
+use Rattle.model.proofs.Rules.{check-yes, check-no}
+use Rattle.lookup.specs.declared.Owned.{Owned}
+use Rattle.lookup.specs.declared.Owned.the-variants.{At, Refused}
+use Rattle.lookup.specs.Owned.{ownedSpace}
+
+-- a decision that follows the checks, for the space with identification i
+abbrev checked : List Space → (g i : ℕ) → Decision → Decision
+checked ss g i d = check (ltb (slotOf ss i) 32) NoSpace (check (eqb (spaceAt ss (slotOf ss i) .owner) g) NotOwner d)
+
+record Owns (ss : List Space) (g i u : ℕ) : Type 0 where
+  slot : u ≡ slotOf ss i
+  low : u < 32
+  owner : spaceAt ss u .owner ≡ g
+  passes : (d : Decision) → checked ss g i d ≡ d
+
+module _ (ss : List Space) (g i : ℕ) where
+  Told : Owned → Type 0
+  Told (At u) = Owns ss g i u
+  Told (Refused a) = (d : Decision) → checked ss g i d ≡ refuse a
+
+  told : Told (ownedSpace ss g i)
+  unfolding ownedSpace Told
+  told =
+      choose-elim Told (ltb (slotOf ss i) 32) _ _
+      (λ l. choose-elim Told (eqb (spaceAt ss (slotOf ss i) .owner) g) _ _
+      (λ m. record { slot = refl; low = ltb-true _ 32 l; owner = eqb-true _ g m; passes = λ d. check-yes _ _ l ∙ check-yes _ _ m })
+      (λ m d. check-yes _ _ l ∙ check-no _ _ m))
+      (λ l d. check-no _ _ l)
+
+  module _ (o : Owned) (u : ℕ) (is : o ≡ ownedSpace ss g i) (e : o ≡ At u) where
+    owns : Owns ss g i u
+    unfolding Told
+    owns = subst Told (sym is ∙ e) told
+
+    pub owned-slot : u ≡ slotOf ss i
+    owned-slot = owns .slot
+
+    pub owned-low : u < 32
+    owned-low = owns .low
+
+    pub owned-owner : spaceAt ss u .owner ≡ g
+    owned-owner = owns .owner
+
+-- for search: a call goes on, or is refused
+module _ (s : State) (g i : ℕ) (o : Owned) (is : o ≡ ownedSpace (s .spaces) g i) (x : Reply) (d : Decision) where
+  pub owning-yes : (u : ℕ) → o ≡ At u → x ≡ replied s d → x ≡ replied s (owning s g (slotOf (s .spaces) i) d)
+  unfolding owning
+  owning-yes u e p = p ∙ ap (replied s) (sym (owns (s .spaces) g i o u is e .passes d))
+
+  pub owning-no : (a : Answer) → o ≡ Refused a → x ≡ reply a s → x ≡ replied s (owning s g (slotOf (s .spaces) i) d)
+  unfolding owning replied Told
+  owning-no a e p = p ∙ ap (replied s) (sym (subst (Told (s .spaces) g i) (sym is ∙ e) (told (s .spaces) g i) d))
+
+pub ruleset settling = (owning-no, owning-yes)
