@@ -4,6 +4,7 @@ use mathlib.Core.Bool.{Bool, true, false}
 use mathlib.Core.List.{List}
 use mathlib.Core.Path.{_≡_, refl, sym, ap, _∙_}
 use native.Mathlib.Omega.{arith}
+use lib.Dec.{leb}
 use lib.ListN.{length}
 use borrow.Author.Tests.{le-leb}
 use Rattle.lists.specs.Bytes.{over, part, put, get}
@@ -23,10 +24,11 @@ use Rattle.model.specs.declared.Translation.{Translation}
 use Rattle.model.specs.declared.Translation.the-variants.{Reached, Refused}
 use Rattle.model.specs.Arguments.{goodLength, arguments, checkAll}
 use Rattle.model.specs.Calls.{judge, goodCaller, enrols, perform, fetching, storing, target, access, accessAt, writes}
-use Rattle.model.specs.Decision.{Decision, after, fetch, store, refuse, accept, check}
+use Rattle.model.specs.Decision.{Decision, Effect, after, fetch, store, refuse, accept, check}
 use Rattle.model.specs.Frames.{layout, frameOf, placeOf}
 use Rattle.model.specs.Leaves.{scratchJudged, bufferJudged}
 use Rattle.model.specs.Replies.{callOf}
+use Rattle.model.specs.Searches.{enrolled}
 use Rattle.model.specs.Step.{scratchAfter, bufferAfter}
 use Rattle.model.specs.Tables.{spaceAt}
 use Rattle.model.proofs.Rules.{check-yes, check-no}
@@ -37,27 +39,18 @@ use Rattle.access.proofs.Reach.{Aimed}
 abbrev space : State → (slot : ℕ) → Space
 space s u = spaceAt (s .spaces) u
 
--- what a check leaves of a decision: its answer, and what becomes of the lent buffer and of scratch
-abbrev bufferOf : State → Decision → (m b : List ℕ) → List ℕ
-bufferOf s d m b = bufferAfter (after s d) (d .effect) m b
+-- what a decision leaves of the lent buffer and of scratch
+abbrev bufferOf : State → (m b : List ℕ) → Decision → List ℕ
+bufferOf s m b d = bufferAfter (after s d) (d .effect) m b
 
-abbrev scratchOf : State → Decision → (m b : List ℕ) → List ℕ
-scratchOf s d m b = scratchAfter (after s d) (d .effect) m b
+abbrev scratchOf : State → (m b : List ℕ) → Decision → List ℕ
+scratchOf s m b d = scratchAfter (after s d) (d .effect) m b
 
-check-answer : (t : Bool) (a : Answer) (d : Decision) → check t a d .answer ≡ choose t (d .answer) a
+-- what is read off a decision after one check
+read-check : {A : Type 0} (F : Decision → A) (t : Bool) (a : Answer) (d : Decision) → F (check t a d) ≡ choose t (F d) (F (refuse a))
 unfolding check choose
-check-answer true a d = refl
-check-answer false a d = refl
-
-check-buffer : (s : State) (t : Bool) (a : Answer) (d : Decision) (m b : List ℕ) → bufferOf s (check t a d) m b ≡ choose t (bufferOf s d m b) b
-unfolding check choose bufferAfter
-check-buffer s true a d m b = refl
-check-buffer s false a d m b = refl
-
-check-scratch : (s : State) (t : Bool) (a : Answer) (d : Decision) (m b : List ℕ) → scratchOf s (check t a d) m b ≡ choose t (scratchOf s d m b) m
-unfolding check choose scratchAfter
-check-scratch s true a d m b = refl
-check-scratch s false a d m b = refl
+read-check F true a d = refl
+read-check F false a d = refl
 
 -- for search: a chain of checks up to the one that refuses
 pub go : (t : Bool) (a : Answer) (d x : Decision) → t ≡ true → d ≡ x → check t a d ≡ x
@@ -72,64 +65,64 @@ pub ruleset stops = (go, stop)
 module _ (s : State) (k : Call) (m b : List ℕ) (y : Answer) (e : judge s k (length b) ≡ refuse y) where
   pub fetch-refused : (y ≡ judge s k (length b) .answer) × (b ≡ bufferJudged s k m b)
   unfolding bufferJudged bufferAfter
-  fetch-refused = (ap (λ d. d .answer) (sym e), ap (λ d. bufferOf s d m b) (sym e))
+  fetch-refused = (ap (λ d. d .answer) (sym e), ap (bufferOf s m b) (sym e))
 
   pub store-refused : (y ≡ judge s k (length b) .answer) × (m ≡ scratchJudged s k m b)
   unfolding scratchJudged scratchAfter
-  store-refused = (ap (λ d. d .answer) (sym e), ap (λ d. scratchOf s d m b) (sym e))
+  store-refused = (ap (λ d. d .answer) (sym e), ap (scratchOf s m b) (sym e))
+
+-- Either call, once it comes to what follows translation: w tells a store from a fetch, and f is the effect on a slot.
+module _ (s : State) (k : Call) (a n : ℕ) (w : Bool) (f : ℕ → Effect) (x : Translation) (j : judge s k n ≡ access s a n w f x) where
+  -- translation refused
+  stops-at : (y : Answer) → x ≡ Refused y → judge s k n ≡ refuse y
+  unfolding access
+  stops-at y e = j ∙ ap (access s a n w f) e
+
+  -- it reached the space in slot u: what is read off the decision, by the checks 17 and 18
+  read-at : {A : Type 0} (F : Decision → A) (u : ℕ) (q : Right) → x ≡ Reached u q
+      → F (judge s k n) ≡ choose (inside (space s u) a n) (choose (implies w (writes q)) (F (accept 0 Keep (f u))) (F (refuse Protection))) (F (refuse Addressing))
+  unfolding access accessAt
+  read-at F u q e =
+      ap F (j ∙ ap (access s a n w f) e)
+      ∙ read-check F (inside (space s u) a n) Addressing _
+      ∙ ap (λ z. choose (inside (space s u) a n) z (F (refuse Addressing))) (read-check F (implies w (writes q)) Protection (accept 0 Keep (f u)))
 
 -- the model's call, once the checks 2 and 3 have passed
 module _ (s : State) (c : Caller) (r a n : ℕ) (x : Translation) (h : Aimed s (c .guest) r x) (l : goodLength n ≡ true) where
+  passed : (i j k : Answer) (d : Decision) → check (enrolled (s .guests) (c .guest)) i (check (leb r 15) j (check (goodLength n) k d)) ≡ d
+  passed i j k d = check-yes _ _ (h .guest) ∙ check-yes _ _ (le-leb r 15 (h .register)) ∙ check-yes _ _ l
+
   judge-fetch : judge s (callOf c (Fetch r a)) n ≡ access s a n false (λ u. fetch u a) x
   unfolding judge goodCaller enrols choose arguments checkAll perform fetching target
-  judge-fetch =
-      check-yes _ _ (h .guest)
-      ∙ check-yes _ _ (le-leb r 15 (h .register))
-      ∙ check-yes _ _ l
-      ∙ ap (access s a n false (λ u. fetch u a)) (sym (h .is))
+  judge-fetch = passed _ _ _ _ ∙ ap (access s a n false (λ u. fetch u a)) (sym (h .is))
 
   judge-store : judge s (callOf c (Store r a)) n ≡ access s a n true (λ u. store u a) x
   unfolding judge goodCaller enrols choose arguments checkAll perform storing target
-  judge-store =
-      check-yes _ _ (h .guest)
-      ∙ check-yes _ _ (le-leb r 15 (h .register))
-      ∙ check-yes _ _ l
-      ∙ ap (access s a n true (λ u. store u a)) (sym (h .is))
+  judge-store = passed _ _ _ _ ∙ ap (access s a n true (λ u. store u a)) (sym (h .is))
 
-  -- translation refused
   pub fetch-stops : (y : Answer) → x ≡ Refused y → judge s (callOf c (Fetch r a)) n ≡ refuse y
-  unfolding access
-  fetch-stops y e = judge-fetch ∙ ap (access s a n false (λ u. fetch u a)) e
+  fetch-stops = stops-at s (callOf c (Fetch r a)) a n false (λ u. fetch u a) x judge-fetch
 
   pub store-stops : (y : Answer) → x ≡ Refused y → judge s (callOf c (Store r a)) n ≡ refuse y
-  unfolding access
-  store-stops y e = judge-store ∙ ap (access s a n true (λ u. store u a)) e
+  store-stops = stops-at s (callOf c (Store r a)) a n true (λ u. store u a) x judge-store
 
-  -- it reached the space in slot u
   module _ (u : ℕ) (q : Right) (e : x ≡ Reached u q) where
-    fetch-on : judge s (callOf c (Fetch r a)) n ≡ check (inside (space s u) a n) Addressing (accept 0 Keep (fetch u a))
-    unfolding access accessAt implies
-    fetch-on =
-        judge-fetch
-        ∙ ap (access s a n false (λ u. fetch u a)) e
-        ∙ ap (check (inside (space s u) a n) Addressing) (check-yes Protection (accept 0 Keep (fetch u a)) refl)
+    fetch-read : {A : Type 0} (F : Decision → A) → F (judge s (callOf c (Fetch r a)) n) ≡ choose (inside (space s u) a n) (F (accept 0 Keep (fetch u a))) (F (refuse Addressing))
+    unfolding implies choose
+    fetch-read F = read-at s (callOf c (Fetch r a)) a n false (λ u. fetch u a) x judge-fetch F u q e
 
-    store-on : judge s (callOf c (Store r a)) n ≡ check (inside (space s u) a n) Addressing (check (writes q) Protection (accept 0 Keep (store u a)))
-    unfolding access accessAt implies
-    store-on = judge-store ∙ ap (access s a n true (λ u. store u a)) e
+    store-read : {A : Type 0} (F : Decision → A) → F (judge s (callOf c (Store r a)) n)
+        ≡ choose (inside (space s u) a n) (choose (writes q) (F (accept 0 Keep (store u a))) (F (refuse Protection))) (F (refuse Addressing))
+    unfolding implies
+    store-read F = read-at s (callOf c (Store r a)) a n true (λ u. store u a) x judge-store F u q e
 
     pub fetch-says : (v : Answer) → v ≡ fetchAnswer (space s u) a n → v ≡ judge s (callOf c (Fetch r a)) n .answer
     unfolding fetchAnswer
-    fetch-says v p = p ∙ sym (ap (λ d. d .answer) fetch-on ∙ check-answer (inside (space s u) a n) Addressing (accept 0 Keep (fetch u a)))
+    fetch-says v p = p ∙ sym (fetch-read (λ d. d .answer))
 
     pub store-says : (v : Answer) → v ≡ storeAnswer (space s u) q a n → v ≡ judge s (callOf c (Store r a)) n .answer
     unfolding storeAnswer
-    store-says v p =
-        p
-        ∙ sym
-        (ap (λ d. d .answer) store-on
-        ∙ check-answer (inside (space s u) a n) Addressing (check (writes q) Protection (accept 0 Keep (store u a)))
-        ∙ ap (λ z. choose (inside (space s u) a n) z Addressing) (check-answer (writes q) Protection (accept 0 Keep (store u a))))
+    store-says v p = p ∙ sym (store-read (λ d. d .answer))
 
 -- the bytes of the space in slot u from an address on are one run of scratch
 module _ (s : State) (u a : ℕ) (m b : List ℕ) (run : RunIn (space s u) m) (t : inside (space s u) a (length b) ≡ true) where
@@ -151,8 +144,7 @@ module _ (s : State) (c : Caller) (r a : ℕ) (m b : List ℕ) (x : Translation)
   fetch-fills z p =
       p
       ∙ sym
-      (ap (λ d. bufferOf s d m b) (fetch-on s c r a (length b) x h l u q e)
-      ∙ check-buffer s (inside (space s u) a (length b)) Addressing (accept 0 Keep (fetch u a)) m b
+      (fetch-read s c r a (length b) x h l u q e (bufferOf s m b)
       ∙ choose-eq (inside (space s u) a (length b)) (run-read s u a m b run) (λ _. refl))
 
   pub store-puts : (z : List ℕ) → z ≡ stored (space s u) q a m b → z ≡ scratchJudged s (callOf c (Store r a)) m b
@@ -160,8 +152,5 @@ module _ (s : State) (c : Caller) (r a : ℕ) (m b : List ℕ) (x : Translation)
   store-puts z p =
       p
       ∙ sym
-      (ap (λ d. scratchOf s d m b) (store-on s c r a (length b) x h l u q e)
-      ∙ check-scratch s (inside (space s u) a (length b)) Addressing (check (writes q) Protection (accept 0 Keep (store u a))) m b
-      ∙ choose-eq (inside (space s u) a (length b)) (λ t.
-      check-scratch s (writes q) Protection (accept 0 Keep (store u a)) m b
-      ∙ choose-eq (writes q) (λ _. run-written s u a m b run t) (λ _. refl)) (λ _. refl))
+      (store-read s c r a (length b) x h l u q e (scratchOf s m b)
+      ∙ choose-eq (inside (space s u) a (length b)) (λ t. choose-eq (writes q) (λ _. run-written s u a m b run t) (λ _. refl)) (λ _. refl))
