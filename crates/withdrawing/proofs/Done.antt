@@ -20,7 +20,7 @@ use Rattle.model.specs.Changes.{releasedAll, vacated, unpermitted, loses, revok
 use Rattle.model.specs.Leaves.{callerPlace, flag}
 use Rattle.model.specs.Names.{baseName}
 use Rattle.model.specs.Replies.{reply, replied, callOf}
-use Rattle.model.specs.Searches.{slotOf}
+use Rattle.model.specs.Searches.{slotOf, isOwned, isData}
 use Rattle.model.specs.Tables.{spaceAt, withSpaces, withPermits, withEntries}
 use Rattle.model.proofs.Rules.{go-on}
 use Rattle.lookup.specs.declared.Owned.{Owned}
@@ -28,7 +28,7 @@ use Rattle.lookup.specs.declared.Owned.the-variants.{At}
 use Rattle.lookup.specs.Owned.{ownedSpace}
 use Rattle.lookup.proofs.Owning.{owning-yes, owned-slot}
 use Rattle.lookup.proofs.Rules.{good-caller}
-use Rattle.withdrawing.specs.Sets.{IsSet, Sets, ownedSlots, dataSlots, losesTo}
+use Rattle.withdrawing.specs.Sets.{IsSet, Sets, slotsOf, losesTo}
 use Rattle.withdrawing.proofs.Sets.{none-set}
 
 -- For search: the space in the slot is a primary.
@@ -73,9 +73,9 @@ module _ (s : State) (c : Caller) (at : ℕ) (e : at ≡ callerPlace (s .guests)
         (owning-yes s (c .guest) i o is _ _ u to
         (rw (← slot) (ap (reply (Done 0)) (w ∙ withdrawn-by s (replicate 33 false) one (λ v. false) (eqb u) none-set q))))
 
-  pub reset-done : (gone closed : List Bool) (t : State) (es : List Entry) → IsSet (dataSlots (s .spaces) (c .guest)) gone → IsSet (ownedSlots (s .spaces) (c .guest)) closed
+  pub reset-done : (gone closed : List Bool) (t : State) (es : List Entry) → IsSet (slotsOf (isData (c .guest)) (s .spaces)) gone → IsSet (slotsOf (isOwned (c .guest)) (s .spaces)) closed
       → t ≡ withdrawn (flag gone) (flag closed) s → es ≡ releasedAll (c .guest) (t .entries) → reply (Done 0) (withEntries t es) ≡ replied s (judge s (callOf c Reset) 0)
-  unfolding enrols arguments checkAll perform reset resetTables replied ownedSlots dataSlots
+  unfolding enrols arguments checkAll perform reset resetTables replied slotsOf
   reset-done gone closed t es p q w r =
       good-caller _ s c Reset 0 at refl e l
       (rw r (ap (λ x. reply (Done 0) (withEntries x (releasedAll (c .guest) (x .entries)))) (w ∙ withdrawn-by s gone closed _ _ p q)))

@@ -2,7 +2,7 @@
 use Prim.Native.Nat.{ℕ, _+_, _≤_, _<_}
 use mathlib.Core.Bool.{Bool, true, false}
 use mathlib.Core.List.{List}
-use mathlib.Core.Path.{_≡_, refl, sym, _∙_}
+use mathlib.Core.Path.{_≡_, refl, sym, ap, _∙_}
 use native.Mathlib.Decide.{decLe}
 use native.Mathlib.Omega.{arith}
 use lib.Dec.{eqb}
@@ -15,7 +15,7 @@ use Rattle.model.specs.declared.Space.{Space}
 use Rattle.model.specs.Leaves.{flag}
 use Rattle.model.specs.Searches.{isOwned, isData}
 use Rattle.model.specs.Tables.{noSpace, spaceAt, live}
-use Rattle.withdrawing.specs.Sets.{IsSet, Sets, ownedSlots, dataSlots}
+use Rattle.withdrawing.specs.Sets.{IsSet, Sets, slotsOf}
 
 -- no slot
 pub none-set : IsSet (λ v. false) (replicate 33 false)
@@ -56,36 +56,32 @@ module _ (p : ℕ → Bool) where
       go v (yes h) = below-left _ (replicate 33 false) i v false (omega arith) ∙ none-set .holds v ∙ sym (none v h)
       go v (no h) = below-done _ (replicate 33 false) i v false (omega arith) (omega arith)
 
--- The spaces of a guest. A slot that no table has holds no space, so no guest's.
-module _ (ss : List Space) (g : ℕ) where
-  pub owned-is : (x : Bool) (u : ℕ) → x ≡ isOwned g (spaceAt ss u) → x ≡ ownedSlots ss g u
-  unfolding ownedSlots
-  owned-is x u e = e
+-- A slot that no table has holds no space.
+module _ (f : Space → Bool) (ss : List Space) where
+  pub slot-is : (x : Bool) (u : ℕ) → x ≡ f (spaceAt ss u) → x ≡ slotsOf f ss u
+  unfolding slotsOf
+  slot-is x u e = e
 
-  pub data-is : (x : Bool) (u : ℕ) → x ≡ isData g (spaceAt ss u) → x ≡ dataSlots ss g u
-  unfolding dataSlots
-  data-is x u e = e
+  pub slots-set : (t : List Bool) (i : ℕ) → t ≡ slotsBelow (slotsOf f ss) i → i ≤ 32 → 32 ≤ i → length ss ≡ 32 → f noSpace ≡ false → IsSet (slotsOf f ss) t
+  unfolding slotsOf
+  slots-set t i e l m len none = slots-done _ t i e l m (λ v h. ap f (List·getD-eq-default ss noSpace {n = v} (omega arith)) ∙ none)
 
-  owned-past : length ss ≡ 32 → (v : ℕ) → 32 ≤ v → isOwned g (spaceAt ss v) ≡ false
-  owned-past len v h = rw (List·getD-eq-default ss noSpace {n = v} (omega arith)) (both-no _ refl)
+-- no guest's
+pub none-owned : (g : ℕ) → isOwned g noSpace ≡ false
+none-owned g = both-no _ refl
 
-  pub owned-set : (t : List Bool) (i : ℕ) → t ≡ slotsBelow (ownedSlots ss g) i → i ≤ 32 → 32 ≤ i → length ss ≡ 32 → IsSet (ownedSlots ss g) t
-  unfolding ownedSlots
-  owned-set t i e l m len = slots-done _ t i e l m (owned-past len)
+pub none-data : (g : ℕ) → isData g noSpace ≡ false
+none-data g = both-no _ (none-owned g)
 
-  pub data-set : (t : List Bool) (i : ℕ) → t ≡ slotsBelow (dataSlots ss g) i → i ≤ 32 → 32 ≤ i → length ss ≡ 32 → IsSet (dataSlots ss g) t
-  unfolding dataSlots
-  data-set t i e l m len = slots-done _ t i e l m (λ v h. both-no _ (owned-past len v h))
-
-pub ruleset slots = (only-set, slots-start, slots-go, owned-is, data-is, owned-set, data-set)
+pub ruleset slots = (only-set, slots-start, slots-go, slot-is, slots-set, none-owned, none-data)
 
 -- What withdrawing asks of the two sets: where one slot is closed, and where all of a guest's are.
 module _ (ss : List Space) (g : ℕ) (gone closed : List Bool) where
   pub one-asked : (u : ℕ) (p : ℕ → Bool) → IsSet (eqb u) closed → IsSet p gone → spaceAt ss u .owner ≡ g → Sets ss g gone closed
   one-asked u p c n o = record { gone-last = n .last; closed-last = c .last; owner = λ v e. rw (← eqb-true u v (sym (c .holds v) ∙ e)) o }
 
-  pub owned-asked : (p : ℕ → Bool) → IsSet (ownedSlots ss g) closed → IsSet p gone → Sets ss g gone closed
-  unfolding ownedSlots
+  pub owned-asked : (p : ℕ → Bool) → IsSet (slotsOf (isOwned g) ss) closed → IsSet p gone → Sets ss g gone closed
+  unfolding slotsOf
   owned-asked p c n = record { gone-last = n .last; closed-last = c .last; owner = λ v e. eqb-true _ g (both-right (live (spaceAt ss v)) _ (sym (c .holds v) ∙ e)) }
 
 pub ruleset sets = (none-set, one-asked, owned-asked)

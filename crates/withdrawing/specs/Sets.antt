@@ -8,7 +8,6 @@ use lib.Dec.{eqb}
 use Rattle.lists.specs.Choice.{both, either}
 use Rattle.model.specs.declared.Space.{Space}
 use Rattle.model.specs.Leaves.{flag}
-use Rattle.model.specs.Searches.{isOwned, isData}
 use Rattle.model.specs.Tables.{spaceAt}
 
 -- the table l is the set of the slots of which p holds
@@ -16,12 +15,9 @@ pub record IsSet (p : ℕ → Bool) (l : List Bool) : Type 0 where
   pub holds : (u : ℕ) → flag l u ≡ p u
   pub last : flag l 32 ≡ false
 
--- the slots of a guest's spaces, and of its data spaces
-unfoldable pub ownedSlots : List Space → (guest slot : ℕ) → Bool
-ownedSlots ss g u = isOwned g (spaceAt ss u)
-
-unfoldable pub dataSlots : List Space → (guest slot : ℕ) → Bool
-dataSlots ss g u = isData g (spaceAt ss u)
+-- the slots of the spaces of which f holds
+unfoldable pub slotsOf : (Space → Bool) → List Space → (slot : ℕ) → Bool
+slotsOf f ss u = f (spaceAt ss u)
 
 -- two sets to withdraw by: guest g owns every closed space
 pub record Sets (ss : List Space) (g : ℕ) (gone closed : List Bool) : Type 0 where

@@ -9,9 +9,10 @@ ghost use Rattle.model.specs.Calls.{judge};
 ghost use Rattle.model.specs.Changes.{releasedAll, vacated, unpermitted, revokedAll, withdrawn};
 ghost use Rattle.model.specs.Leaves.{flag};
 ghost use Rattle.model.specs.Replies.{replied, callOf};
+ghost use Rattle.model.specs.Searches.{isOwned, isData};
 ghost use Rattle.model.specs.SoundTest.{sound};
 ghost use Rattle.model.specs.declared.Operation.the-variants.{Destroy, Isolate, Reset};
-ghost use Rattle.withdrawing.specs.Sets.{IsSet, Sets, ownedSlots, dataSlots, losesTo};
+ghost use Rattle.withdrawing.specs.Sets.{IsSet, Sets, slotsOf, losesTo};
 use lookup::Owned;
 use model::Answer;
 use model::Caller;
@@ -100,7 +101,7 @@ fn only(u: usize) -> [bool; 33]
 
 // The slots of a guest's data spaces.
 fn data_slots(spaces: [Space; 32], owner: u32) -> [bool; 33]
-    ensures { λ r. ⌜ IsSet (dataSlots spaces owner) r ⌝ }
+    ensures { λ r. ⌜ IsSet (slotsOf (isData owner) spaces) r ⌝ }
 {
     let mut t = [false; 33];
     for u in 0..32usize {
@@ -112,7 +113,7 @@ fn data_slots(spaces: [Space; 32], owner: u32) -> [bool; 33]
 
 // The slots of all spaces of a guest.
 fn owned_slots(spaces: [Space; 32], owner: u32) -> [bool; 33]
-    ensures { λ r. ⌜ IsSet (ownedSlots spaces owner) r ⌝ }
+    ensures { λ r. ⌜ IsSet (slotsOf (isOwned owner) spaces) r ⌝ }
 {
     let mut t = [false; 33];
     for u in 0..32usize {

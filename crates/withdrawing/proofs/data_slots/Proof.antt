@@ -2,14 +2,15 @@
 use Prim.Native.Nat.{_≤_, _-_}
 use mathlib.Core.Path.{_≡_}
 use native.Mathlib.Omega.{arith}
-use Rattle.withdrawing.specs.Sets.{dataSlots}
+use Rattle.model.specs.Searches.{isData}
+use Rattle.withdrawing.specs.Sets.{slotsOf}
 use Rattle.withdrawing.proofs.Sets.{slotsBelow, slots}
 use borrow.Author.Needs.{needs}
 use Rattle.withdrawing.proofs.data_slots.Statement.{statement}
 use Rattle.withdrawing.proofs.data_slots.Tie as tie
 
 abbrev Inv-loop : tie.InvT-loop
-Inv-loop owner spaces t₀ u₀ t u = (u ≤ 32) × (t ≡ slotsBelow (dataSlots spaces owner) u)
+Inv-loop owner spaces t₀ u₀ t u = (u ≤ 32) × (t ≡ slotsBelow (slotsOf (isData owner) spaces) u)
 
 abbrev μ-loop : tie.MeasureT-loop
 μ-loop owner spaces t₀ u₀ t u = 32 - u
