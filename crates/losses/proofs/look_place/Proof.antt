@@ -5,20 +5,8 @@ use Rattle.losses.proofs.Looks.{looks}
 use Rattle.losses.proofs.look_place.Statement.{statement}
 use Rattle.losses.proofs.look_place.Tie as tie
 
-enum-told : tie.Need-enum-told
-enum-told c = search needs
-
-enum-known-x : tie.Need-enum-known-x
-enum-known-x c = search needs
-
-cast-result : tie.Need-cast-result
-cast-result c = search needs
-
 returns : tie.Need-returns
 returns c = search looks
-
-enum-told-2 : tie.Need-enum-told-2
-enum-told-2 c = search needs
 
 returns-2 : tie.Need-returns-2
 unfolding lookPlace
@@ -34,4 +22,12 @@ returns-4 c = search needs
 pub look-place-spec : {M : Type 1} → statement M
 look-place-spec =
     tie.close
-    (tie.spec enum-told enum-known-x cast-result returns enum-told-2 returns-2 returns-3 returns-4)
+    (tie.spec
+    (λ c. search needs)
+    (λ c. search needs)
+    (λ c. search needs)
+    returns
+    (λ c. search needs)
+    returns-2
+    returns-3
+    returns-4)

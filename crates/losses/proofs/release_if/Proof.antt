@@ -4,9 +4,6 @@ use borrow.Author.Needs.{needs}
 use Rattle.losses.proofs.release_if.Statement.{statement}
 use Rattle.losses.proofs.release_if.Tie as tie
 
-release-requires : tie.Need-release-requires
-release-requires c κs = search needs
-
 returns : tie.Need-returns
 returns c = search tests
 
@@ -14,4 +11,4 @@ returns-2 : tie.Need-returns-2
 returns-2 c = search tests
 
 pub release-if-spec : {M : Type 1} → statement M
-release-if-spec = tie.close (tie.spec release-requires returns returns-2)
+release-if-spec = tie.close (tie.spec (λ c κs. search needs) returns returns-2)

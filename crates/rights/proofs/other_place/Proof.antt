@@ -7,11 +7,8 @@ use Rattle.rights.proofs.other_place.Tie as tie
 returns : tie.Need-returns
 returns c = search same-guest
 
-caller-place-requires : tie.Need-caller-place-requires
-caller-place-requires c κs = search needs
-
 returns-2 : tie.Need-returns-2
 returns-2 c = search other-guest
 
 pub other-place-spec : {M : Type 1} → statement M
-other-place-spec = tie.close (tie.spec returns caller-place-requires returns-2)
+other-place-spec = tie.close (tie.spec returns (λ c κs. search needs) returns-2)

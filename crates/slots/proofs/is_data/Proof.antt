@@ -10,17 +10,11 @@ use Rattle.slots.proofs.is_data.Tie as tie
 not-base : (b e : Bool) → b ≡ e → not b ≡ not e
 not-base b e p = ap not p
 
-is-owned-requires : tie.Need-is-owned-requires
-is-owned-requires c κs = search needs
-
 returns : tie.Need-returns
 returns c = search calls depth 8
-
-is-base-requires : tie.Need-is-base-requires
-is-base-requires c κs = search needs
 
 returns-2 : tie.Need-returns-2
 returns-2 c = search (tests, not-base) depth 8
 
 pub is-data-spec : {M : Type 1} → statement M
-is-data-spec = tie.close (tie.spec is-owned-requires returns is-base-requires returns-2)
+is-data-spec = tie.close (tie.spec (λ c κs. search needs) returns (λ c κs. search needs) returns-2)

@@ -7,11 +7,8 @@ use Rattle.slots.proofs.is_owned.Tie as tie
 returns : tie.Need-returns
 returns c = search (tests, needs) depth 8
 
-cast-o : tie.Need-cast-o
-cast-o c = search needs
-
 returns-2 : tie.Need-returns-2
 returns-2 c = search (tests, needs) depth 8
 
 pub is-owned-spec : {M : Type 1} → statement M
-is-owned-spec = tie.close (tie.spec returns cast-o returns-2)
+is-owned-spec = tie.close (tie.spec returns (λ c. search needs) returns-2)

@@ -4,9 +4,6 @@ use Rattle.lists.proofs.Rules.{tests, calls}
 use Rattle.slots.proofs.is_space.Statement.{statement}
 use Rattle.slots.proofs.is_space.Tie as tie
 
-is-live-requires : tie.Need-is-live-requires
-is-live-requires c κs = search needs
-
 returns : tie.Need-returns
 returns c = search calls depth 8
 
@@ -14,4 +11,4 @@ returns-2 : tie.Need-returns-2
 returns-2 c = search (tests, needs) depth 8
 
 pub is-space-spec : {M : Type 1} → statement M
-is-space-spec = tie.close (tie.spec is-live-requires returns returns-2)
+is-space-spec = tie.close (tie.spec (λ c κs. search needs) returns returns-2)

@@ -10,37 +10,16 @@ use Rattle.withdrawing.proofs.Sets.{sets}
 use Rattle.withdrawing.proofs.destroy.Statement.{statement}
 use Rattle.withdrawing.proofs.destroy.Tie as tie
 
-caller-place-requires : tie.Need-caller-place-requires
-caller-place-requires c κs = search needs
-
 returns : tie.Need-returns
 unfolding enrols
 returns c = search bad-caller
-
-owned-space-requires : tie.Need-owned-space-requires
-owned-space-requires c κs = search needs
-
-enum-known-refusal : tie.Need-enum-known-refusal
-enum-known-refusal c = search needs
 
 returns-2 : tie.Need-returns-2
 unfolding enrols arguments checkAll perform destroy
 returns-2 c = search (good-caller, settling) depth 8
 
-enum-known-slot : tie.Need-enum-known-slot
-enum-known-slot c = search needs
-
-cast-u : tie.Need-cast-u
-cast-u c = search needs
-
-mul-x : tie.Need-mul-x
-mul-x c = search needs
-
 array-copy-out-x : tie.Need-array-copy-out-x
 array-copy-out-x c = search owned-low
-
-is-base-requires : tie.Need-is-base-requires
-is-base-requires c κs = search needs
 
 returns-3 : tie.Need-returns-3
 unfolding enrols arguments checkAll perform destroy
@@ -59,16 +38,16 @@ pub destroy-spec : {M : Type 1} → statement M
 destroy-spec =
     tie.close
     (tie.spec
-    caller-place-requires
+    (λ c κs. search needs)
     returns
-    owned-space-requires
-    enum-known-refusal
+    (λ c κs. search needs)
+    (λ c. search needs)
     returns-2
-    enum-known-slot
-    cast-u
-    mul-x
+    (λ c. search needs)
+    (λ c. search needs)
+    (λ c. search needs)
     array-copy-out-x
-    is-base-requires
+    (λ c κs. search needs)
     returns-3
     only-requires
     withdraw-requires

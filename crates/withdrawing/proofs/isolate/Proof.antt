@@ -9,28 +9,13 @@ use Rattle.withdrawing.proofs.Sets.{sets}
 use Rattle.withdrawing.proofs.isolate.Statement.{statement}
 use Rattle.withdrawing.proofs.isolate.Tie as tie
 
-caller-place-requires : tie.Need-caller-place-requires
-caller-place-requires c κs = search needs
-
 returns : tie.Need-returns
 unfolding enrols
 returns c = search bad-caller
 
-owned-space-requires : tie.Need-owned-space-requires
-owned-space-requires c κs = search needs
-
-enum-known-refusal : tie.Need-enum-known-refusal
-enum-known-refusal c = search needs
-
 returns-2 : tie.Need-returns-2
 unfolding enrols arguments checkAll perform isolate
 returns-2 c = search (good-caller, settling) depth 8
-
-enum-known-slot : tie.Need-enum-known-slot
-enum-known-slot c = search needs
-
-cast-u : tie.Need-cast-u
-cast-u c = search needs
 
 only-requires : tie.Need-only-requires
 only-requires c κs = search owned-low
@@ -45,13 +30,13 @@ pub isolate-spec : {M : Type 1} → statement M
 isolate-spec =
     tie.close
     (tie.spec
-    caller-place-requires
+    (λ c κs. search needs)
     returns
-    owned-space-requires
-    enum-known-refusal
+    (λ c κs. search needs)
+    (λ c. search needs)
     returns-2
-    enum-known-slot
-    cast-u
+    (λ c. search needs)
+    (λ c. search needs)
     only-requires
     withdraw-requires
     returns-3)

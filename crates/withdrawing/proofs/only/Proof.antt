@@ -4,11 +4,8 @@ use borrow.Author.Needs.{needs}
 use Rattle.withdrawing.proofs.only.Statement.{statement}
 use Rattle.withdrawing.proofs.only.Tie as tie
 
-array-write-t : tie.Need-array-write-t
-array-write-t c = search needs
-
 returns : tie.Need-returns
 returns c = search slots
 
 pub only-spec : {M : Type 1} → statement M
-only-spec = tie.close (tie.spec array-write-t returns)
+only-spec = tie.close (tie.spec (λ c. search needs) returns)

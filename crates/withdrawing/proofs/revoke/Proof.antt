@@ -21,41 +21,11 @@ abbrev μ-loop : tie.MeasureT-loop
 loop-holds : tie.Need-loop-holds Inv-loop μ-loop
 loop-holds c = (omega arith, search maps)
 
-mul-e : tie.Need-mul-e Inv-loop μ-loop
-mul-e c = search needs
-
-array-copy-out-e : tie.Need-array-copy-out-e Inv-loop μ-loop
-array-copy-out-e c = search needs
-
-look-place-requires : tie.Need-look-place-requires Inv-loop μ-loop
-look-place-requires c κs = search needs
-
 array-read-is-lost : tie.Need-array-read-is-lost Inv-loop μ-loop
 array-read-is-lost c = search (looks, needs)
 
 array-read-is-lost-2 : tie.Need-array-read-is-lost-2 Inv-loop μ-loop
 array-read-is-lost-2 c = search (looks, needs)
-
-add-is-lost : tie.Need-add-is-lost Inv-loop μ-loop
-add-is-lost c = search needs
-
-is-lost-requires : tie.Need-is-lost-requires Inv-loop μ-loop
-is-lost-requires c κs = search needs
-
-revoke-if-requires : tie.Need-revoke-if-requires Inv-loop μ-loop
-revoke-if-requires c κs = search needs
-
-mul-t : tie.Need-mul-t Inv-loop μ-loop
-mul-t c = search needs
-
-array-set-from-t : tie.Need-array-set-from-t Inv-loop μ-loop
-array-set-from-t c = search needs
-
-add-k : tie.Need-add-k Inv-loop μ-loop
-add-k c = search needs
-
-loop-less : tie.Need-loop-less Inv-loop μ-loop
-loop-less c = search needs
 
 loop-again : tie.Need-loop-again Inv-loop μ-loop
 loop-again c = (omega arith, search (looks, needs) depth 8)
@@ -71,17 +41,17 @@ revoke-spec =
     Inv-loop
     μ-loop
     loop-holds
-    mul-e
-    array-copy-out-e
-    look-place-requires
+    (λ c. search needs)
+    (λ c. search needs)
+    (λ c κs. search needs)
     array-read-is-lost
     array-read-is-lost-2
-    add-is-lost
-    is-lost-requires
-    revoke-if-requires
-    mul-t
-    array-set-from-t
-    add-k
-    loop-less
+    (λ c. search needs)
+    (λ c κs. search needs)
+    (λ c κs. search needs)
+    (λ c. search needs)
+    (λ c. search needs)
+    (λ c. search needs)
+    (λ c. search needs)
     loop-again
     returns)

@@ -21,24 +21,6 @@ abbrev μ-loop : tie.MeasureT-loop
 loop-holds : tie.Need-loop-holds Inv-loop μ-loop
 loop-holds c = (omega arith, search maps)
 
-array-copy-out-p : tie.Need-array-copy-out-p Inv-loop μ-loop
-array-copy-out-p c = search needs
-
-array-read-permit-unless : tie.Need-array-read-permit-unless Inv-loop μ-loop
-array-read-permit-unless c = search needs
-
-permit-unless-requires : tie.Need-permit-unless-requires Inv-loop μ-loop
-permit-unless-requires c κs = search needs
-
-array-set-from-t : tie.Need-array-set-from-t Inv-loop μ-loop
-array-set-from-t c = search needs
-
-add-k : tie.Need-add-k Inv-loop μ-loop
-add-k c = search needs
-
-loop-less : tie.Need-loop-less Inv-loop μ-loop
-loop-less c = search needs
-
 loop-again : tie.Need-loop-again Inv-loop μ-loop
 loop-again c = (omega arith, search (maps, needs) depth 8)
 
@@ -53,11 +35,11 @@ unpermit-spec =
     Inv-loop
     μ-loop
     loop-holds
-    array-copy-out-p
-    array-read-permit-unless
-    permit-unless-requires
-    array-set-from-t
-    add-k
-    loop-less
+    (λ c. search needs)
+    (λ c. search needs)
+    (λ c κs. search needs)
+    (λ c. search needs)
+    (λ c. search needs)
+    (λ c. search needs)
     loop-again
     returns)
