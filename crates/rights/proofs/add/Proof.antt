@@ -2,7 +2,7 @@
 use borrow.Author.Needs.{needs}
 use Rattle.model.specs.Arguments.{arguments, checkAll}
 use Rattle.model.specs.Calls.{enrols, perform, add}
-use Rattle.model.proofs.Rules.{checks, places}
+use Rattle.model.proofs.Rules.{checks}
 use Rattle.lookup.proofs.Rules.{found, bad-caller}
 use Rattle.rights.proofs.Done.{add-done}
 use Rattle.rights.proofs.Rules.{leaves, bounds}
@@ -15,18 +15,18 @@ returns c = search bad-caller
 
 returns-2 : tie.Need-returns-2
 unfolding enrols arguments checkAll perform add
-returns-2 c = search (leaves, checks, places, found) depth 8
+returns-2 c = search (leaves, checks, found) depth 8
 
 returns-3 : tie.Need-returns-3
 unfolding enrols arguments checkAll perform add
-returns-3 c = search (leaves, checks, places, found) depth 8
+returns-3 c = search (leaves, checks, found) depth 8
 
 free-entry-requires : tie.Need-free-entry-requires
 free-entry-requires c κs = search bounds
 
 returns-4 : tie.Need-returns-4
 unfolding enrols arguments checkAll perform add
-returns-4 c = search (leaves, checks, places, found) depth 8
+returns-4 c = search (leaves, checks, found) depth 8
 
 enter-requires : tie.Need-enter-requires
 enter-requires c κs = (search needs, (search bounds, search needs))

@@ -1,10 +1,10 @@
 -- `rights::remove` meets its contract. Assumes nothing.
 use borrow.Author.Needs.{needs}
-use Rattle.lists.proofs.Rules.{tests, calls}
+use Rattle.lists.proofs.Rules.{tests}
 use Rattle.model.specs.Arguments.{arguments, checkAll}
 use Rattle.model.specs.Calls.{enrols, perform, remove}
-use Rattle.model.proofs.Rules.{checks, places}
-use Rattle.lookup.proofs.Rules.{found, bad-caller}
+use Rattle.model.proofs.Rules.{checks}
+use Rattle.lookup.proofs.Rules.{bad-caller}
 use Rattle.rights.proofs.Done.{remove-done}
 use Rattle.rights.proofs.Rules.{leaves, bounds}
 use Rattle.rights.proofs.remove.Statement.{statement}
@@ -16,11 +16,11 @@ returns c = search bad-caller
 
 returns-2 : tie.Need-returns-2
 unfolding enrols arguments checkAll perform remove
-returns-2 c = search (leaves, checks, places, found, tests, calls) depth 8
+returns-2 c = search (leaves, checks, tests) depth 8
 
 returns-3 : tie.Need-returns-3
 unfolding enrols arguments checkAll perform remove
-returns-3 c = search (leaves, checks, places, found, tests, calls) depth 8
+returns-3 c = search (leaves, checks, tests) depth 8
 
 sub-place : tie.Need-sub-place
 sub-place c = search bounds
@@ -30,7 +30,7 @@ element-copy-out-e c = search bounds
 
 returns-4 : tie.Need-returns-4
 unfolding enrols arguments checkAll perform remove
-returns-4 c = search (leaves, checks, places, found, tests, calls) depth 8
+returns-4 c = search (leaves, checks, tests) depth 8
 
 element-set-from-s : tie.Need-element-set-from-s
 element-set-from-s c = search bounds
