@@ -124,7 +124,7 @@ pub fn free_entry(entries: [Entry; 240], place: usize, list: usize) -> usize
     let mut k = 0usize;
     while k < list {
         let e = entries[place * 30 + k];
-        if entries::is_unused(e) {
+        if entries::may_take(e) {
             return k;
         }
         k += 1;

@@ -6,9 +6,6 @@ use Rattle.answers.proofs.Refused.{refused}
 use Rattle.answers.proofs.value.Statement.{statement}
 use Rattle.answers.proofs.value.Tie as tie
 
-enum-known-a : tie.Need-enum-known-a
-enum-known-a c = search needs
-
 returns : tie.Need-returns
 unfolding value
 returns c = sym (ap value (c .before .a .given .1))
@@ -17,4 +14,4 @@ returns-2 : tie.Need-returns-2
 returns-2 c = refused (c .before .args .a) (c .match .keys2)
 
 pub value-spec : {M : Type 1} → statement M
-value-spec = tie.close (tie.spec enum-known-a returns returns-2)
+value-spec = tie.close (tie.spec (λ c. search needs) returns returns-2)

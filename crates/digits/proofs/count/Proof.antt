@@ -14,20 +14,8 @@ abbrev μ-loop : tie.MeasureT-loop
 loop-holds : tie.Need-loop-holds Inv-loop μ-loop
 loop-holds c = search (count-start, arith)
 
-add-k : tie.Need-add-k Inv-loop μ-loop
-add-k c = search needs
-
-loop-less : tie.Need-loop-less Inv-loop μ-loop
-loop-less c = search needs
-
 loop-again : tie.Need-loop-again Inv-loop μ-loop
 loop-again c = search count-turn
-
-few-requires : tie.Need-few-requires Inv-loop μ-loop
-few-requires c κs = search needs
-
-add-result : tie.Need-add-result Inv-loop μ-loop
-add-result c = search needs
 
 returns : tie.Need-returns Inv-loop μ-loop
 returns c = search (count-end, count-some, count-few)
@@ -39,9 +27,9 @@ count-spec =
     Inv-loop
     μ-loop
     loop-holds
-    add-k
-    loop-less
+    (λ c. search needs)
+    (λ c. search needs)
     loop-again
-    few-requires
-    add-result
+    (λ c κs. search needs)
+    (λ c. search needs)
     returns)

@@ -5,19 +5,13 @@ use Rattle.model.specs.Session.{hexLetter}
 use Rattle.digits.proofs.letter.Statement.{statement}
 use Rattle.digits.proofs.letter.Tie as tie
 
-add-result : tie.Need-add-result
-add-result c = search needs
-
 returns : tie.Need-returns
 unfolding hexLetter
 returns c = search tests
-
-add-result-2 : tie.Need-add-result-2
-add-result-2 c = search needs
 
 returns-2 : tie.Need-returns-2
 unfolding hexLetter
 returns-2 c = search tests
 
 pub letter-spec : {M : Type 1} → statement M
-letter-spec = tie.close (tie.spec add-result returns add-result-2 returns-2)
+letter-spec = tie.close (tie.spec (λ c. search needs) returns (λ c. search needs) returns-2)

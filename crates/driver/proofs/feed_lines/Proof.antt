@@ -21,84 +21,18 @@ Inv-loop held₀ scratch₀ input out₀ host₀ line₀ have₀ i₀ held scrat
 abbrev μ-loop : tie.MeasureT-loop
 μ-loop held₀ scratch₀ input out₀ host₀ line₀ have₀ i₀ held scratch out host line have i = length input - i
 
-is-usable-requires : tie.Need-is-usable-requires Inv-loop μ-loop
-is-usable-requires c κs = search needs
-
 loop-holds : tie.Need-loop-holds Inv-loop μ-loop
 loop-holds c = (going-start _ _ _, search needs, search needs, search needs, refl, refl)
 
-sub-if1 : tie.Need-sub-if1 Inv-loop μ-loop
-sub-if1 c = search needs
-
-stand-requires : tie.Need-stand-requires Inv-loop μ-loop
-stand-requires c κs = search needs
-
-same-length : tie.Need-same-length Inv-loop μ-loop
-same-length c = search needs
-
-same-length-2 : tie.Need-same-length-2 Inv-loop μ-loop
-same-length-2 c = search needs
-
-same-length-3 : tie.Need-same-length-3 Inv-loop μ-loop
-same-length-3 c = search needs
-
 returns : tie.Need-returns Inv-loop μ-loop
 returns c = search (stop-full, arith)
-
-line-end-requires : tie.Need-line-end-requires Inv-loop μ-loop
-line-end-requires c κs = search needs
-
-sub-hold : tie.Need-sub-hold Inv-loop μ-loop
-sub-hold c = search needs
-
-part-hold-start : tie.Need-part-hold-start Inv-loop μ-loop
-part-hold-start c = search needs
-
-part-hold-end : tie.Need-part-hold-end Inv-loop μ-loop
-part-hold-end c = search needs
-
-hold-requires : tie.Need-hold-requires Inv-loop μ-loop
-hold-requires c κs = search needs
-
-stand-requires-2 : tie.Need-stand-requires-2 Inv-loop μ-loop
-stand-requires-2 c κs = search needs
 
 same-length-4 : tie.Need-same-length-4 Inv-loop μ-loop
 same-length-4 c =
     omega (arith, c .before .before .before .before .before .before .before .before .before .before .before .loop .inv .3, c .before .before .before .before .before .before .before .before .before .before .before .before .before .before .before .before .before .before .pre .0, c .before .before .before .held .given)
 
-same-length-5 : tie.Need-same-length-5 Inv-loop μ-loop
-same-length-5 c = search needs
-
-same-length-6 : tie.Need-same-length-6 Inv-loop μ-loop
-same-length-6 c = search needs
-
 returns-2 : tie.Need-returns-2 Inv-loop μ-loop
 returns-2 c = search (stop-part, arith)
-
-wrapping-add-u64-requires : tie.Need-wrapping-add-u64-requires Inv-loop μ-loop
-wrapping-add-u64-requires c κs = search needs
-
-add-i : tie.Need-add-i Inv-loop μ-loop
-add-i c = search needs
-
-sub-take-line : tie.Need-sub-take-line Inv-loop μ-loop
-sub-take-line c = search needs
-
-part-take-line-start : tie.Need-part-take-line-start Inv-loop μ-loop
-part-take-line-start c = search needs
-
-part-take-line-end : tie.Need-part-take-line-end Inv-loop μ-loop
-part-take-line-end c = search needs
-
-take-line-requires : tie.Need-take-line-requires Inv-loop μ-loop
-take-line-requires c κs = search needs
-
-enum-known-step : tie.Need-enum-known-step Inv-loop μ-loop
-enum-known-step c = search needs
-
-loop-less : tie.Need-loop-less Inv-loop μ-loop
-loop-less c = search needs
 
 loop-again : tie.Need-loop-again Inv-loop μ-loop
 loop-again c =
@@ -112,9 +46,6 @@ loop-again c =
     let number = c .before .before .before .before .before .before .before .before .before .before .before .before .wrapping-add-u64 .ensures in
     let taken = c .before .before .before .before .before .before .before .take-line .ensures in
     (turn-answered _ _ input _ _ _ _ _ (loop .held) (part .last .0) (loop .i) found _ _ (loop .have) (part .result) _ (here .0) (end .0) (end .1) (omega (arith, end .2, test)) (here .2) (part .ensures .0) number taken _ (c .before .step .given .1), search answered-ready, search needs, search needs, search needs, search needs)
-
-enum-known-step-2 : tie.Need-enum-known-step-2 Inv-loop μ-loop
-enum-known-step-2 c = search needs
 
 change-requires : tie.Need-change-requires Inv-loop μ-loop
 change-requires c κs =
@@ -140,18 +71,6 @@ loop-again-2 c =
     let taken = c .before .before .before .before .before .before .before .before .before .before .before .before .before .before .take-line .ensures in
     (turn-changed _ _ input _ _ _ _ _ (loop .held) (part .last .0) (loop .i) found _ _ (loop .have) (part .result) _ (here .0) (end .0) (end .1) (omega (arith, end .2, test)) (here .2) (part .ensures .0) number taken _ _ _ _ (c .before .before .before .before .before .before .before .before .step2 .given .1) (c .before .before .before .before .change .ensures), search changed-ready, search needs, omega (arith, here .3, c .before .before .before .before .before .before .before .before .before .before .before .before .before .before .before .before .before .before .before .before .before .before .held .given), omega (arith, here .4), omega (arith, here .5))
 
-stand-requires-3 : tie.Need-stand-requires-3 Inv-loop μ-loop
-stand-requires-3 c κs = search needs
-
-same-length-7 : tie.Need-same-length-7 Inv-loop μ-loop
-same-length-7 c = search needs
-
-same-length-8 : tie.Need-same-length-8 Inv-loop μ-loop
-same-length-8 c = search needs
-
-same-length-9 : tie.Need-same-length-9 Inv-loop μ-loop
-same-length-9 c = search needs
-
 returns-3 : tie.Need-returns-3 Inv-loop μ-loop
 returns-3 c = search (stop-end, arith)
 
@@ -161,39 +80,39 @@ feed-lines-spec =
     (tie.spec
     Inv-loop
     μ-loop
-    is-usable-requires
+    (λ c κs. search needs)
     loop-holds
-    sub-if1
-    stand-requires
-    same-length
-    same-length-2
-    same-length-3
+    (λ c. search needs)
+    (λ c κs. search needs)
+    (λ c. search needs)
+    (λ c. search needs)
+    (λ c. search needs)
     returns
-    line-end-requires
-    sub-hold
-    part-hold-start
-    part-hold-end
-    hold-requires
-    stand-requires-2
+    (λ c κs. search needs)
+    (λ c. search needs)
+    (λ c. search needs)
+    (λ c. search needs)
+    (λ c κs. search needs)
+    (λ c κs. search needs)
     same-length-4
-    same-length-5
-    same-length-6
+    (λ c. search needs)
+    (λ c. search needs)
     returns-2
-    wrapping-add-u64-requires
-    add-i
-    sub-take-line
-    part-take-line-start
-    part-take-line-end
-    take-line-requires
-    enum-known-step
-    loop-less
+    (λ c κs. search needs)
+    (λ c. search needs)
+    (λ c. search needs)
+    (λ c. search needs)
+    (λ c. search needs)
+    (λ c κs. search needs)
+    (λ c. search needs)
+    (λ c. search needs)
     loop-again
-    enum-known-step-2
+    (λ c. search needs)
     change-requires
     loop-less-2
     loop-again-2
-    stand-requires-3
-    same-length-7
-    same-length-8
-    same-length-9
+    (λ c κs. search needs)
+    (λ c. search needs)
+    (λ c. search needs)
+    (λ c. search needs)
     returns-3)

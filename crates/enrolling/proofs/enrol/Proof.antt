@@ -4,17 +4,8 @@ use borrow.Author.Needs.{needs}
 use Rattle.enrolling.proofs.enrol.Statement.{statement}
 use Rattle.enrolling.proofs.enrol.Tie as tie
 
-new-place-requires : tie.Need-new-place-requires
-new-place-requires c κs = search needs
-
 returns : tie.Need-returns
 returns c = search enrol-caller
-
-wrong-setting-requires : tie.Need-wrong-setting-requires
-wrong-setting-requires c κs = search needs
-
-kind-at-requires : tie.Need-kind-at-requires
-kind-at-requires c κs = search needs
 
 returns-2 : tie.Need-returns-2
 returns-2 c = search enrol-wrong
@@ -25,17 +16,8 @@ cast-t13 c = search allowance-small
 cast-t14 : tie.Need-cast-t14
 cast-t14 c = search list-small
 
-mul-gs : tie.Need-mul-gs
-mul-gs c = search needs
-
-array-set-from-gs : tie.Need-array-set-from-gs
-array-set-from-gs c = search needs
-
 make-requires : tie.Need-make-requires
 make-requires c κs = (search needs, search needs, search pages-low, search pages-high, search new-owner)
-
-same-length : tie.Need-same-length
-same-length c = search needs
 
 returns-3 : tie.Need-returns-3
 returns-3 c = search enrol-done
@@ -44,15 +26,15 @@ pub enrol-spec : {M : Type 1} → statement M
 enrol-spec =
     tie.close
     (tie.spec
-    new-place-requires
+    (λ c κs. search needs)
     returns
-    wrong-setting-requires
-    kind-at-requires
+    (λ c κs. search needs)
+    (λ c κs. search needs)
     returns-2
     cast-t13
     cast-t14
-    mul-gs
-    array-set-from-gs
+    (λ c. search needs)
+    (λ c. search needs)
     make-requires
-    same-length
+    (λ c. search needs)
     returns-3)

@@ -13,18 +13,6 @@ returns-2 : tie.Need-returns-2
 unfolding newPlace
 returns-2 c = search (tests, needs) depth 9
 
-sub-at : tie.Need-sub-at
-sub-at c = search needs
-
-cast-at : tie.Need-cast-at
-cast-at c = search needs
-
-mul-if3 : tie.Need-mul-if3
-mul-if3 c = search needs
-
-element-copy-out-if3 : tie.Need-element-copy-out-if3
-element-copy-out-if3 c = search needs
-
 returns-3 : tie.Need-returns-3
 unfolding newPlace
 returns-3 c = search (tests, needs) depth 9
@@ -36,4 +24,4 @@ returns-4 c = search (tests, needs) depth 9
 pub new-place-spec : {M : Type 1} → statement M
 new-place-spec =
     tie.close
-    (tie.spec returns returns-2 sub-at cast-at mul-if3 element-copy-out-if3 returns-3 returns-4)
+    (tie.spec returns returns-2 (λ c. search needs) (λ c. search needs) (λ c. search needs) (λ c. search needs) returns-3 returns-4)

@@ -4,15 +4,6 @@ use Rattle.model.specs.Searches.{isUnused}
 use Rattle.entries.proofs.is_unused.Statement.{statement}
 use Rattle.entries.proofs.is_unused.Tie as tie
 
-enum-told : tie.Need-enum-told
-enum-told c = search needs
-
-enum-told-2 : tie.Need-enum-told-2
-enum-told-2 c = search needs
-
-enum-told-3 : tie.Need-enum-told-3
-enum-told-3 c = search needs
-
 returns : tie.Need-returns
 unfolding isUnused
 returns c = cc
@@ -26,4 +17,4 @@ unfolding isUnused
 returns-3 c = cc
 
 pub is-unused-spec : {M : Type 1} → statement M
-is-unused-spec = tie.close (tie.spec enum-told enum-told-2 enum-told-3 returns returns-2 returns-3)
+is-unused-spec = tie.close (tie.spec (λ c. search needs) (λ c. search needs) (λ c. search needs) returns returns-2 returns-3)

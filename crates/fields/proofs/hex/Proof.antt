@@ -10,9 +10,6 @@ returns c = search hex-odd
 returns-2 : tie.Need-returns-2
 returns-2 c = search hex-long
 
-all-hex-requires : tie.Need-all-hex-requires
-all-hex-requires c κs = search needs
-
 returns-3 : tie.Need-returns-3
 returns-3 c = search hex-pairs
 
@@ -20,4 +17,4 @@ returns-4 : tie.Need-returns-4
 returns-4 c = search hex-other
 
 pub hex-spec : {M : Type 1} → statement M
-hex-spec = tie.close (tie.spec returns returns-2 all-hex-requires returns-3 returns-4)
+hex-spec = tie.close (tie.spec returns returns-2 (λ c κs. search needs) returns-3 returns-4)

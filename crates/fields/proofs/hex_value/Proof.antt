@@ -10,11 +10,8 @@ sub-result c = search hex-low
 returns : tie.Need-returns
 returns c = (search decimal-value, search needs)
 
-sub-result-2 : tie.Need-sub-result-2
-sub-result-2 c = search needs
-
 returns-2 : tie.Need-returns-2
 returns-2 c = (search letter-value, search letter-small)
 
 pub hex-value-spec : {M : Type 1} → statement M
-hex-value-spec = tie.close (tie.spec sub-result returns sub-result-2 returns-2)
+hex-value-spec = tie.close (tie.spec sub-result returns (λ c. search needs) returns-2)

@@ -10,11 +10,8 @@ returns c = search name-none
 returns-2 : tie.Need-returns-2
 returns-2 c = search name-long
 
-letters-requires : tie.Need-letters-requires
-letters-requires c κs = search needs
-
 returns-3 : tie.Need-returns-3
 returns-3 c = search name-letters
 
 pub name-spec : {M : Type 1} → statement M
-name-spec = tie.close (tie.spec returns returns-2 letters-requires returns-3)
+name-spec = tie.close (tie.spec returns returns-2 (λ c κs. search needs) returns-3)

@@ -10,20 +10,11 @@ returns c = search number-none
 returns-2 : tie.Need-returns-2
 returns-2 c = search number-long
 
-shared-slice-read-if4 : tie.Need-shared-slice-read-if4
-shared-slice-read-if4 c = search needs
-
 returns-3 : tie.Need-returns-3
 returns-3 c = search number-zero
 
-decimal-requires : tie.Need-decimal-requires
-decimal-requires c κs = search needs
-
 returns-4 : tie.Need-returns-4
 returns-4 c = search number-more
-
-decimal-requires-2 : tie.Need-decimal-requires-2
-decimal-requires-2 c κs = search needs
 
 returns-5 : tie.Need-returns-5
 returns-5 c = search number-one
@@ -34,9 +25,9 @@ number-spec =
     (tie.spec
     returns
     returns-2
-    shared-slice-read-if4
+    (λ c. search needs)
     returns-3
-    decimal-requires
+    (λ c κs. search needs)
     returns-4
-    decimal-requires-2
+    (λ c κs. search needs)
     returns-5)

@@ -20,12 +20,6 @@ mul-p c = search padding-scaled
 add-p : tie.Need-add-p Inv-loop μ-loop
 add-p c = search padding-fits
 
-add-k : tie.Need-add-k Inv-loop μ-loop
-add-k c = search needs
-
-loop-less : tie.Need-loop-less Inv-loop μ-loop
-loop-less c = search needs
-
 loop-again : tie.Need-loop-again Inv-loop μ-loop
 loop-again c = search padding-turn
 
@@ -34,4 +28,4 @@ returns c = search padding-end
 
 pub padded-spec : {M : Type 1} → statement M
 padded-spec =
-    tie.close (tie.spec Inv-loop μ-loop loop-holds mul-p add-p add-k loop-less loop-again returns)
+    tie.close (tie.spec Inv-loop μ-loop loop-holds mul-p add-p (λ c. search needs) (λ c. search needs) loop-again returns)

@@ -4,14 +4,8 @@ use borrow.Author.Needs.{needs}
 use Rattle.fields.proofs.right.Statement.{statement}
 use Rattle.fields.proofs.right.Tie as tie
 
-shared-slice-read-if2 : tie.Need-shared-slice-read-if2
-shared-slice-read-if2 c = search needs
-
 returns : tie.Need-returns
 returns c = search right-read
-
-shared-slice-read-if3 : tie.Need-shared-slice-read-if3
-shared-slice-read-if3 c = search needs
 
 returns-2 : tie.Need-returns-2
 returns-2 c = search right-write
@@ -25,4 +19,4 @@ returns-4 c = search right-long
 pub right-spec : {M : Type 1} → statement M
 right-spec =
     tie.close
-    (tie.spec shared-slice-read-if2 returns shared-slice-read-if3 returns-2 returns-3 returns-4)
+    (tie.spec (λ c. search needs) returns (λ c. search needs) returns-2 returns-3 returns-4)

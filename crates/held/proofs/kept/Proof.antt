@@ -5,11 +5,8 @@ use Rattle.held.proofs.Held.{held-least}
 use Rattle.held.proofs.kept.Statement.{statement}
 use Rattle.held.proofs.kept.Tie as tie
 
-least-requires : tie.Need-least-requires
-least-requires c κs = search needs
-
 returns : tie.Need-returns
 returns c = search (held-least, arith)
 
 pub kept-spec : {M : Type 1} → statement M
-kept-spec = tie.close (tie.spec least-requires returns)
+kept-spec = tie.close (tie.spec (λ c κs. search needs) returns)

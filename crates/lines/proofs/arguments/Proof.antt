@@ -23,44 +23,11 @@ loop-holds c = (refl, search taken-none)
 returns : tie.Need-returns Inv-loop μ-loop
 returns c = search taken-short
 
-add-start : tie.Need-add-start Inv-loop μ-loop
-add-start c = search needs
-
-field-end-requires : tie.Need-field-end-requires Inv-loop μ-loop
-field-end-requires c κs = search needs
-
-sub-read-field : tie.Need-sub-read-field Inv-loop μ-loop
-sub-read-field c = search needs
-
-part-read-field-start : tie.Need-part-read-field-start Inv-loop μ-loop
-part-read-field-start c = search needs
-
-part-read-field-end : tie.Need-part-read-field-end Inv-loop μ-loop
-part-read-field-end c = search needs
-
-read-field-requires : tie.Need-read-field-requires Inv-loop μ-loop
-read-field-requires c κs = search needs
-
-enum-known-v : tie.Need-enum-known-v Inv-loop μ-loop
-enum-known-v c = search needs
-
-enum-told : tie.Need-enum-told Inv-loop μ-loop
-enum-told c = search needs
-
 returns-2 : tie.Need-returns-2 Inv-loop μ-loop
 returns-2 c = search taken-bad
 
-mul-values : tie.Need-mul-values Inv-loop μ-loop
-mul-values c = search needs
-
 array-write-values : tie.Need-array-write-values Inv-loop μ-loop
 array-write-values c = search taken-room
-
-add-k : tie.Need-add-k Inv-loop μ-loop
-add-k c = search needs
-
-loop-less : tie.Need-loop-less Inv-loop μ-loop
-loop-less c = search needs
 
 loop-again : tie.Need-loop-again Inv-loop μ-loop
 loop-again c =
@@ -71,9 +38,6 @@ loop-again c =
 
 returns-3 : tie.Need-returns-3 Inv-loop μ-loop
 returns-3 c = search taken-over
-
-make-requires : tie.Need-make-requires Inv-loop μ-loop
-make-requires c κs = search needs
 
 returns-4 : tie.Need-returns-4 Inv-loop μ-loop
 returns-4 c = search taken-made
@@ -86,20 +50,20 @@ arguments-spec =
     μ-loop
     loop-holds
     returns
-    add-start
-    field-end-requires
-    sub-read-field
-    part-read-field-start
-    part-read-field-end
-    read-field-requires
-    enum-known-v
-    enum-told
+    (λ c. search needs)
+    (λ c κs. search needs)
+    (λ c. search needs)
+    (λ c. search needs)
+    (λ c. search needs)
+    (λ c κs. search needs)
+    (λ c. search needs)
+    (λ c. search needs)
     returns-2
-    mul-values
+    (λ c. search needs)
     array-write-values
-    add-k
-    loop-less
+    (λ c. search needs)
+    (λ c. search needs)
     loop-again
     returns-3
-    make-requires
+    (λ c κs. search needs)
     returns-4)

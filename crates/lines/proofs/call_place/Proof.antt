@@ -19,25 +19,13 @@ Inv-loop word names i₀ i = (i ≤ calls) × (placeOf word ≡ lowestFrom (λ k
 abbrev μ-loop : tie.MeasureT-loop
 μ-loop word names i₀ i = calls - i
 
-call-names-requires : tie.Need-call-names-requires Inv-loop μ-loop
-call-names-requires c κs = search needs
-
 loop-holds : tie.Need-loop-holds Inv-loop μ-loop
 unfolding forms
 loop-holds c = (omega arith, place-from _ _ (c .call-names .ensures))
 
-mul-if1 : tie.Need-mul-if1 Inv-loop μ-loop
-mul-if1 c = search needs
-
-array-read-if1 : tie.Need-array-read-if1 Inv-loop μ-loop
-array-read-if1 c = search needs
-
 returns : tie.Need-returns Inv-loop μ-loop
 unfolding forms
 returns c = search loops
-
-add-i : tie.Need-add-i Inv-loop μ-loop
-add-i c = search needs
 
 loop-less : tie.Need-loop-less Inv-loop μ-loop
 unfolding forms
@@ -57,12 +45,12 @@ call-place-spec =
     (tie.spec
     Inv-loop
     μ-loop
-    call-names-requires
+    (λ c κs. search needs)
     loop-holds
-    mul-if1
-    array-read-if1
+    (λ c. search needs)
+    (λ c. search needs)
     returns
-    add-i
+    (λ c. search needs)
     loop-less
     loop-again
     returns-2)

@@ -4,12 +4,6 @@ use borrow.Author.Needs.{needs}
 use Rattle.lines.proofs.is_store.Statement.{statement}
 use Rattle.lines.proofs.is_store.Tie as tie
 
-enum-known-request : tie.Need-enum-known-request
-enum-known-request c = search needs
-
-enum-told : tie.Need-enum-told
-enum-told c = search needs
-
 returns : tie.Need-returns
 returns c = search store-asked
 
@@ -20,4 +14,4 @@ returns-3 : tie.Need-returns-3
 returns-3 c = search none-asked
 
 pub is-store-spec : {M : Type 1} → statement M
-is-store-spec = tie.close (tie.spec enum-known-request enum-told returns returns-2 returns-3)
+is-store-spec = tie.close (tie.spec (λ c. search needs) (λ c. search needs) returns returns-2 returns-3)

@@ -8,87 +8,6 @@ use borrow.Author.Needs.{needs}
 use Rattle.lines.proofs.make.Statement.{statement}
 use Rattle.lines.proofs.make.Tie as tie
 
-array-read-second : tie.Need-array-read-second
-array-read-second c = search needs
-
-array-read-third : tie.Need-array-read-third
-array-read-third c = search needs
-
-array-read-fourth : tie.Need-array-read-fourth
-array-read-fourth c = search needs
-
-array-read-a : tie.Need-array-read-a
-array-read-a c = search needs
-
-cast-a : tie.Need-cast-a
-cast-a c = search needs
-
-cast-b : tie.Need-cast-b
-cast-b c = search needs
-
-cast-c : tie.Need-cast-c
-cast-c c = search needs
-
-cast-d : tie.Need-cast-d
-cast-d c = search needs
-
-array-read-e : tie.Need-array-read-e
-array-read-e c = search needs
-
-cast-e : tie.Need-cast-e
-cast-e c = search needs
-
-array-read-f : tie.Need-array-read-f
-array-read-f c = search needs
-
-cast-f : tie.Need-cast-f
-cast-f c = search needs
-
-asked-requires : tie.Need-asked-requires
-asked-requires c κs = search needs
-
-asked-requires-2 : tie.Need-asked-requires-2
-asked-requires-2 c κs = search needs
-
-asked-requires-3 : tie.Need-asked-requires-3
-asked-requires-3 c κs = search needs
-
-right-of-requires : tie.Need-right-of-requires
-right-of-requires c κs = search needs
-
-asked-requires-4 : tie.Need-asked-requires-4
-asked-requires-4 c κs = search needs
-
-asked-requires-5 : tie.Need-asked-requires-5
-asked-requires-5 c κs = search needs
-
-asked-requires-6 : tie.Need-asked-requires-6
-asked-requires-6 c κs = search needs
-
-right-of-requires-2 : tie.Need-right-of-requires-2
-right-of-requires-2 c κs = search needs
-
-asked-requires-7 : tie.Need-asked-requires-7
-asked-requires-7 c κs = search needs
-
-asked-requires-8 : tie.Need-asked-requires-8
-asked-requires-8 c κs = search needs
-
-asked-requires-9 : tie.Need-asked-requires-9
-asked-requires-9 c κs = search needs
-
-asked-requires-10 : tie.Need-asked-requires-10
-asked-requires-10 c κs = search needs
-
-asked-requires-11 : tie.Need-asked-requires-11
-asked-requires-11 c κs = search needs
-
-asked-requires-12 : tie.Need-asked-requires-12
-asked-requires-12 c κs = search needs
-
-asked-requires-13 : tie.Need-asked-requires-13
-asked-requires-13 c κs = search needs
-
 returns : tie.Need-returns
 returns c = made _ 0 _ _ (omega arith) (unfold forms lowered low madeBy in refl)
 
@@ -139,33 +58,33 @@ pub make-spec : {M : Type 1} → statement M
 make-spec =
     tie.close
     (tie.spec
-    array-read-second
-    array-read-third
-    array-read-fourth
-    array-read-a
-    cast-a
-    cast-b
-    cast-c
-    cast-d
-    array-read-e
-    cast-e
-    array-read-f
-    cast-f
-    asked-requires
-    asked-requires-2
-    asked-requires-3
-    right-of-requires
-    asked-requires-4
-    asked-requires-5
-    asked-requires-6
-    right-of-requires-2
-    asked-requires-7
-    asked-requires-8
-    asked-requires-9
-    asked-requires-10
-    asked-requires-11
-    asked-requires-12
-    asked-requires-13
+    (λ c. search needs)
+    (λ c. search needs)
+    (λ c. search needs)
+    (λ c. search needs)
+    (λ c. search needs)
+    (λ c. search needs)
+    (λ c. search needs)
+    (λ c. search needs)
+    (λ c. search needs)
+    (λ c. search needs)
+    (λ c. search needs)
+    (λ c. search needs)
+    (λ c κs. search needs)
+    (λ c κs. search needs)
+    (λ c κs. search needs)
+    (λ c κs. search needs)
+    (λ c κs. search needs)
+    (λ c κs. search needs)
+    (λ c κs. search needs)
+    (λ c κs. search needs)
+    (λ c κs. search needs)
+    (λ c κs. search needs)
+    (λ c κs. search needs)
+    (λ c κs. search needs)
+    (λ c κs. search needs)
+    (λ c κs. search needs)
+    (λ c κs. search needs)
     returns
     returns-2
     returns-3

@@ -4,12 +4,6 @@ use borrow.Author.Needs.{needs}
 use Rattle.lines.proofs.next_field.Statement.{statement}
 use Rattle.lines.proofs.next_field.Tie as tie
 
-field-end-requires : tie.Need-field-end-requires
-field-end-requires c κs = search needs
-
-add-result : tie.Need-add-result
-add-result c = search needs
-
 returns : tie.Need-returns
 returns c = (search later-some, search needs)
 
@@ -17,4 +11,4 @@ returns-2 : tie.Need-returns-2
 returns-2 c = (search later-none, search needs)
 
 pub next-field-spec : {M : Type 1} → statement M
-next-field-spec = tie.close (tie.spec field-end-requires add-result returns returns-2)
+next-field-spec = tie.close (tie.spec (λ c κs. search needs) (λ c. search needs) returns returns-2)

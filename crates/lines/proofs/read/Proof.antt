@@ -9,45 +9,12 @@ use Rattle.lines.proofs.read.Tie as tie
 returns : tie.Need-returns
 returns c = search line-long
 
-field-end-requires : tie.Need-field-end-requires
-field-end-requires c κs = search needs
-
-sub-name : tie.Need-sub-name
-sub-name c = search needs
-
-part-name-start : tie.Need-part-name-start
-part-name-start c = search needs
-
-part-name-end : tie.Need-part-name-end
-part-name-end c = search needs
-
-name-requires : tie.Need-name-requires
-name-requires c κs = search needs
-
-enum-known-word : tie.Need-enum-known-word
-enum-known-word c = search needs
-
-enum-told : tie.Need-enum-told
-enum-told c = search needs
-
 returns-2 : tie.Need-returns-2
 returns-2 c = search line-unnamed
-
-call-place-requires : tie.Need-call-place-requires
-call-place-requires c κs = search needs
 
 returns-3 : tie.Need-returns-3
 unfolding forms
 returns-3 c = search line-unknown
-
-call-shapes-requires : tie.Need-call-shapes-requires
-call-shapes-requires c κs = search needs
-
-mul-arguments : tie.Need-mul-arguments
-mul-arguments c = search needs
-
-array-read-arguments : tie.Need-array-read-arguments
-array-read-arguments c = search needs
 
 arguments-requires : tie.Need-arguments-requires
 unfolding forms
@@ -62,18 +29,18 @@ read-spec =
     tie.close
     (tie.spec
     returns
-    field-end-requires
-    sub-name
-    part-name-start
-    part-name-end
-    name-requires
-    enum-known-word
-    enum-told
+    (λ c κs. search needs)
+    (λ c. search needs)
+    (λ c. search needs)
+    (λ c. search needs)
+    (λ c κs. search needs)
+    (λ c. search needs)
+    (λ c. search needs)
     returns-2
-    call-place-requires
+    (λ c κs. search needs)
     returns-3
-    call-shapes-requires
-    mul-arguments
-    array-read-arguments
+    (λ c κs. search needs)
+    (λ c. search needs)
+    (λ c. search needs)
     arguments-requires
     returns-4)

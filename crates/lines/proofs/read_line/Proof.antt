@@ -4,21 +4,12 @@ use borrow.Author.Needs.{needs}
 use Rattle.lines.proofs.read_line.Statement.{statement}
 use Rattle.lines.proofs.read_line.Tie as tie
 
-read-requires : tie.Need-read-requires
-read-requires c κs = search needs
-
-is-store-requires : tie.Need-is-store-requires
-is-store-requires c κs = search needs
-
 read-data-requires : tie.Need-read-data-requires
 read-data-requires c κs = (search store-line, search needs)
-
-returns : tie.Need-returns
-returns c = search needs
 
 returns-2 : tie.Need-returns-2
 returns-2 c = (search needs, search other-line)
 
 pub read-line-spec : {M : Type 1} → statement M
 read-line-spec =
-    tie.close (tie.spec read-requires is-store-requires read-data-requires returns returns-2)
+    tie.close (tie.spec (λ c κs. search needs) (λ c κs. search needs) read-data-requires (λ c. search needs) returns-2)

@@ -44,15 +44,6 @@ loop2-holds :
     tie.Need-loop2-holds Inv-loop2 μ-loop2 Inv-loop μ-loop Inv-loop4 μ-loop4 Inv-loop3 μ-loop3
 loop2-holds c = search lefts depth 6
 
-mul-e : tie.Need-mul-e Inv-loop2 μ-loop2 Inv-loop μ-loop Inv-loop4 μ-loop4 Inv-loop3 μ-loop3
-mul-e c = search needs
-
-add-e : tie.Need-add-e Inv-loop2 μ-loop2 Inv-loop μ-loop Inv-loop4 μ-loop4 Inv-loop3 μ-loop3
-add-e c = search needs
-
-mul-e-2 : tie.Need-mul-e-2 Inv-loop2 μ-loop2 Inv-loop μ-loop Inv-loop4 μ-loop4 Inv-loop3 μ-loop3
-mul-e-2 c = search needs
-
 array-copy-out-e :
     tie.Need-array-copy-out-e Inv-loop2 μ-loop2 Inv-loop μ-loop Inv-loop4 μ-loop4 Inv-loop3 μ-loop3
 array-copy-out-e c = search needs
@@ -72,9 +63,6 @@ standing-ok-requires c κs = search needs
 returns : tie.Need-returns Inv-loop2 μ-loop2 Inv-loop μ-loop Inv-loop4 μ-loop4 Inv-loop3 μ-loop3
 returns c = search (and-stop, lefts) depth 8
 
-add-k : tie.Need-add-k Inv-loop2 μ-loop2 Inv-loop μ-loop Inv-loop4 μ-loop4 Inv-loop3 μ-loop3
-add-k c = search needs
-
 loop2-less :
     tie.Need-loop2-less Inv-loop2 μ-loop2 Inv-loop μ-loop Inv-loop4 μ-loop4 Inv-loop3 μ-loop3
 loop2-less c = search needs
@@ -82,9 +70,6 @@ loop2-less c = search needs
 loop2-again :
     tie.Need-loop2-again Inv-loop2 μ-loop2 Inv-loop μ-loop Inv-loop4 μ-loop4 Inv-loop3 μ-loop3
 loop2-again c = let i = c .before .before .before .before .loop2 .inv in (i .0, i .1, left-go _ _ _ _ (i .2) (omega arith) (test-yes _ _ (c .before .standing-ok .ensures) (c .if1 .left)))
-
-add-i : tie.Need-add-i Inv-loop2 μ-loop2 Inv-loop μ-loop Inv-loop4 μ-loop4 Inv-loop3 μ-loop3
-add-i c = search needs
 
 loop-less :
     tie.Need-loop-less Inv-loop2 μ-loop2 Inv-loop μ-loop Inv-loop4 μ-loop4 Inv-loop3 μ-loop3
@@ -99,28 +84,13 @@ loop3-holds :
 unfolding aboveTest
 loop3-holds c = (search lefts depth 6, search lefts depth 6)
 
-mul-g : tie.Need-mul-g Inv-loop2 μ-loop2 Inv-loop μ-loop Inv-loop4 μ-loop4 Inv-loop3 μ-loop3
-mul-g c = search needs
-
 array-copy-out-g :
     tie.Need-array-copy-out-g Inv-loop2 μ-loop2 Inv-loop μ-loop Inv-loop4 μ-loop4 Inv-loop3 μ-loop3
 array-copy-out-g c = search needs
 
-cast-l : tie.Need-cast-l Inv-loop2 μ-loop2 Inv-loop μ-loop Inv-loop4 μ-loop4 Inv-loop3 μ-loop3
-cast-l c = search needs
-
 loop4-holds :
     tie.Need-loop4-holds Inv-loop2 μ-loop2 Inv-loop μ-loop Inv-loop4 μ-loop4 Inv-loop3 μ-loop3
 loop4-holds c = search lefts depth 6
-
-mul-e-3 : tie.Need-mul-e-3 Inv-loop2 μ-loop2 Inv-loop μ-loop Inv-loop4 μ-loop4 Inv-loop3 μ-loop3
-mul-e-3 c = search needs
-
-add-e-2 : tie.Need-add-e-2 Inv-loop2 μ-loop2 Inv-loop μ-loop Inv-loop4 μ-loop4 Inv-loop3 μ-loop3
-add-e-2 c = search needs
-
-mul-e-4 : tie.Need-mul-e-4 Inv-loop2 μ-loop2 Inv-loop μ-loop Inv-loop4 μ-loop4 Inv-loop3 μ-loop3
-mul-e-4 c = search needs
 
 array-copy-out-e-2 :
     tie.Need-array-copy-out-e-2
@@ -150,9 +120,6 @@ returns-2 :
     tie.Need-returns-2 Inv-loop2 μ-loop2 Inv-loop μ-loop Inv-loop4 μ-loop4 Inv-loop3 μ-loop3
 returns-2 c = search above-stop
 
-add-i-2 : tie.Need-add-i-2 Inv-loop2 μ-loop2 Inv-loop μ-loop Inv-loop4 μ-loop4 Inv-loop3 μ-loop3
-add-i-2 c = search needs
-
 loop4-less :
     tie.Need-loop4-less Inv-loop2 μ-loop2 Inv-loop μ-loop Inv-loop4 μ-loop4 Inv-loop3 μ-loop3
 loop4-less c = search needs
@@ -160,9 +127,6 @@ loop4-less c = search needs
 loop4-again :
     tie.Need-loop4-again Inv-loop2 μ-loop2 Inv-loop μ-loop Inv-loop4 μ-loop4 Inv-loop3 μ-loop3
 loop4-again c = search lefts depth 6
-
-add-k-2 : tie.Need-add-k-2 Inv-loop2 μ-loop2 Inv-loop μ-loop Inv-loop4 μ-loop4 Inv-loop3 μ-loop3
-add-k-2 c = search needs
 
 loop3-less :
     tie.Need-loop3-less Inv-loop2 μ-loop2 Inv-loop μ-loop Inv-loop4 μ-loop4 Inv-loop3 μ-loop3
@@ -190,33 +154,33 @@ entries-ok-spec =
     μ-loop3
     loop-holds
     loop2-holds
-    mul-e
-    add-e
-    mul-e-2
+    (λ c. search needs)
+    (λ c. search needs)
+    (λ c. search needs)
     array-copy-out-e
     standing-ok-requires
     returns
-    add-k
+    (λ c. search needs)
     loop2-less
     loop2-again
-    add-i
+    (λ c. search needs)
     loop-less
     loop-again
     loop3-holds
-    mul-g
+    (λ c. search needs)
     array-copy-out-g
-    cast-l
+    (λ c. search needs)
     loop4-holds
-    mul-e-3
-    add-e-2
-    mul-e-4
+    (λ c. search needs)
+    (λ c. search needs)
+    (λ c. search needs)
     array-copy-out-e-2
     untouched-requires
     returns-2
-    add-i-2
+    (λ c. search needs)
     loop4-less
     loop4-again
-    add-k-2
+    (λ c. search needs)
     loop3-less
     loop3-again
     returns-3)

@@ -5,12 +5,6 @@ use borrow.Author.Needs.{needs}
 use Rattle.listed.proofs.rank.Statement.{statement}
 use Rattle.listed.proofs.rank.Tie as tie
 
-enum-told : tie.Need-enum-told
-enum-told c = search needs
-
-enum-told-2 : tie.Need-enum-told-2
-enum-told-2 c = search needs
-
 returns : tie.Need-returns
 unfolding rightRank
 returns c = search (tests, needs) depth 8
@@ -20,4 +14,4 @@ unfolding rightRank
 returns-2 c = search (tests, needs) depth 8
 
 pub rank-spec : {M : Type 1} → statement M
-rank-spec = tie.close (tie.spec enum-told enum-told-2 returns returns-2)
+rank-spec = tie.close (tie.spec (λ c. search needs) (λ c. search needs) returns returns-2)

@@ -5,9 +5,6 @@ use borrow.Author.Needs.{needs}
 use Rattle.listed.proofs.untouched.Statement.{statement}
 use Rattle.listed.proofs.untouched.Tie as tie
 
-is-unused-requires : tie.Need-is-unused-requires
-is-unused-requires c κs = search needs
-
 returns : tie.Need-returns
 unfolding untouchedTest
 returns c = search tests depth 8
@@ -17,4 +14,4 @@ unfolding untouchedTest
 returns-2 c = search tests depth 8
 
 pub untouched-spec : {M : Type 1} → statement M
-untouched-spec = tie.close (tie.spec is-unused-requires returns returns-2)
+untouched-spec = tie.close (tie.spec (λ c κs. search needs) returns returns-2)

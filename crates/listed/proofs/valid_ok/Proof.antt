@@ -10,18 +10,6 @@ returns : tie.Need-returns
 unfolding validWith
 returns c = search (tests, lt-is) depth 10
 
-rank-requires : tie.Need-rank-requires
-rank-requires c κs = search needs
-
-mul-result : tie.Need-mul-result
-mul-result c = search needs
-
-add-result : tie.Need-add-result
-add-result c = search needs
-
-element-copy-out-result : tie.Need-element-copy-out-result
-element-copy-out-result c = search needs
-
 returns-2 : tie.Need-returns-2
 unfolding validWith
 returns-2 c = search (tests, lt-is) depth 10
@@ -29,4 +17,4 @@ returns-2 c = search (tests, lt-is) depth 10
 pub valid-ok-spec : {M : Type 1} → statement M
 valid-ok-spec =
     tie.close
-    (tie.spec returns rank-requires mul-result add-result element-copy-out-result returns-2)
+    (tie.spec returns (λ c κs. search needs) (λ c. search needs) (λ c. search needs) (λ c. search needs) returns-2)

@@ -4,26 +4,14 @@ use borrow.Author.Needs.{needs}
 use Rattle.names.proofs.good_end.Statement.{statement}
 use Rattle.names.proofs.good_end.Tie as tie
 
-is-later-requires : tie.Need-is-later-requires
-is-later-requires c κs = search needs
-
 returns : tie.Need-returns
 returns c = search rests depth 12
-
-is-later-requires-2 : tie.Need-is-later-requires-2
-is-later-requires-2 c κs = search needs
 
 returns-2 : tie.Need-returns-2
 returns-2 c = search rests depth 12
 
-is-later-requires-3 : tie.Need-is-later-requires-3
-is-later-requires-3 c κs = search needs
-
 returns-3 : tie.Need-returns-3
 returns-3 c = search rests depth 12
-
-is-later-requires-4 : tie.Need-is-later-requires-4
-is-later-requires-4 c κs = search needs
 
 returns-4 : tie.Need-returns-4
 returns-4 c = search rests depth 12
@@ -35,12 +23,12 @@ pub good-end-spec : {M : Type 1} → statement M
 good-end-spec =
     tie.close
     (tie.spec
-    is-later-requires
+    (λ c κs. search needs)
     returns
-    is-later-requires-2
+    (λ c κs. search needs)
     returns-2
-    is-later-requires-3
+    (λ c κs. search needs)
     returns-3
-    is-later-requires-4
+    (λ c κs. search needs)
     returns-4
     returns-5)

@@ -4,11 +4,8 @@ use borrow.Author.Needs.{needs}
 use Rattle.names.proofs.is_later.Statement.{statement}
 use Rattle.names.proofs.is_later.Tie as tie
 
-element-copy-out-result : tie.Need-element-copy-out-result
-element-copy-out-result c = search needs
-
 returns : tie.Need-returns
 returns c = is-one _ _ (c .before .pre .0 .holds _ (c .before .pre .1))
 
 pub is-later-spec : {M : Type 1} → statement M
-is-later-spec = tie.close (tie.spec element-copy-out-result returns)
+is-later-spec = tie.close (tie.spec (λ c. search needs) returns)

@@ -15,9 +15,6 @@ returns-2 : tie.Need-returns-2
 unfolding pairTest
 returns-2 c = search (tests, needs) depth 8
 
-frames-apart-requires : tie.Need-frames-apart-requires
-frames-apart-requires c κs = search needs
-
 returns-3 : tie.Need-returns-3
 unfolding pairTest
 returns-3 c = search (tests, needs) depth 8
@@ -25,9 +22,6 @@ returns-3 c = search (tests, needs) depth 8
 returns-4 : tie.Need-returns-4
 unfolding pairTest
 returns-4 c = search (tests, needs) depth 8
-
-same-name-requires : tie.Need-same-name-requires
-same-name-requires c κs = search needs
 
 returns-5 : tie.Need-returns-5
 unfolding pairTest
@@ -39,8 +33,8 @@ apart-spec =
     (tie.spec
     returns
     returns-2
-    frames-apart-requires
+    (λ c κs. search needs)
     returns-3
     returns-4
-    same-name-requires
+    (λ c κs. search needs)
     returns-5)

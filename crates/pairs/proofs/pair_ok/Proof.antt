@@ -7,11 +7,8 @@ use Rattle.pairs.proofs.pair_ok.Tie as tie
 returns : tie.Need-returns
 returns c = search (tests, needs) depth 8
 
-apart-requires : tie.Need-apart-requires
-apart-requires c κs = search needs
-
 returns-2 : tie.Need-returns-2
 returns-2 c = search (tests, needs) depth 8
 
 pub pair-ok-spec : {M : Type 1} → statement M
-pair-ok-spec = tie.close (tie.spec returns apart-requires returns-2)
+pair-ok-spec = tie.close (tie.spec returns (λ c κs. search needs) returns-2)

@@ -25,47 +25,8 @@ loop-holds c = (omega arith, may-start (c .args .t1))
 loop2-holds : tie.Need-loop2-holds Inv-loop2 μ-loop2 Inv-loop μ-loop
 loop2-holds c = search (may-enter, arith)
 
-mul-o : tie.Need-mul-o Inv-loop2 μ-loop2 Inv-loop μ-loop
-mul-o c = search needs
-
-array-copy-out-o : tie.Need-array-copy-out-o Inv-loop2 μ-loop2 Inv-loop μ-loop
-array-copy-out-o c = search needs
-
-mul-h : tie.Need-mul-h Inv-loop2 μ-loop2 Inv-loop μ-loop
-mul-h c = search needs
-
-array-copy-out-h : tie.Need-array-copy-out-h Inv-loop2 μ-loop2 Inv-loop μ-loop
-array-copy-out-h c = search needs
-
-may-be-requires : tie.Need-may-be-requires Inv-loop2 μ-loop2 Inv-loop μ-loop
-may-be-requires c κs = search needs
-
-add-t : tie.Need-add-t Inv-loop2 μ-loop2 Inv-loop μ-loop
-add-t c = search needs
-
-mul-t : tie.Need-mul-t Inv-loop2 μ-loop2 Inv-loop μ-loop
-mul-t c = search needs
-
-add-t-2 : tie.Need-add-t-2 Inv-loop2 μ-loop2 Inv-loop μ-loop
-add-t-2 c = search needs
-
-array-write-t : tie.Need-array-write-t Inv-loop2 μ-loop2 Inv-loop μ-loop
-array-write-t c = search needs
-
-add-k : tie.Need-add-k Inv-loop2 μ-loop2 Inv-loop μ-loop
-add-k c = search needs
-
-loop2-less : tie.Need-loop2-less Inv-loop2 μ-loop2 Inv-loop μ-loop
-loop2-less c = search needs
-
 loop2-again : tie.Need-loop2-again Inv-loop2 μ-loop2 Inv-loop μ-loop
 loop2-again c = search (may-go, arith)
-
-add-i : tie.Need-add-i Inv-loop2 μ-loop2 Inv-loop μ-loop
-add-i c = search needs
-
-loop-less : tie.Need-loop-less Inv-loop2 μ-loop2 Inv-loop μ-loop
-loop-less c = search needs
 
 loop-again : tie.Need-loop-again Inv-loop2 μ-loop2 Inv-loop μ-loop
 loop-again c = search (may-row, arith)
@@ -83,19 +44,19 @@ may-table-spec =
     μ-loop
     loop-holds
     loop2-holds
-    mul-o
-    array-copy-out-o
-    mul-h
-    array-copy-out-h
-    may-be-requires
-    add-t
-    mul-t
-    add-t-2
-    array-write-t
-    add-k
-    loop2-less
+    (λ c. search needs)
+    (λ c. search needs)
+    (λ c. search needs)
+    (λ c. search needs)
+    (λ c κs. search needs)
+    (λ c. search needs)
+    (λ c. search needs)
+    (λ c. search needs)
+    (λ c. search needs)
+    (λ c. search needs)
+    (λ c. search needs)
     loop2-again
-    add-i
-    loop-less
+    (λ c. search needs)
+    (λ c. search needs)
     loop-again
     returns)

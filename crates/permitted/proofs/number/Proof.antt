@@ -5,15 +5,6 @@ use borrow.Author.Needs.{needs}
 use Rattle.permitted.proofs.number.Statement.{statement}
 use Rattle.permitted.proofs.number.Tie as tie
 
-enum-told : tie.Need-enum-told
-enum-told c = search needs
-
-enum-told-2 : tie.Need-enum-told-2
-enum-told-2 c = search needs
-
-enum-told-3 : tie.Need-enum-told-3
-enum-told-3 c = search needs
-
 returns : tie.Need-returns
 unfolding grantNumber
 returns c = search (tests, needs) depth 8
@@ -27,4 +18,4 @@ unfolding grantNumber
 returns-3 c = search (tests, needs) depth 8
 
 pub number-spec : {M : Type 1} → statement M
-number-spec = tie.close (tie.spec enum-told enum-told-2 enum-told-3 returns returns-2 returns-3)
+number-spec = tie.close (tie.spec (λ c. search needs) (λ c. search needs) (λ c. search needs) returns returns-2 returns-3)

@@ -14,39 +14,6 @@ abbrev μ-loop : tie.MeasureT-loop
 loop-holds : tie.Need-loop-holds Inv-loop μ-loop
 loop-holds c = search power-start
 
-element-copy-out-o : tie.Need-element-copy-out-o Inv-loop μ-loop
-element-copy-out-o c = search needs
-
-place-requires : tie.Need-place-requires Inv-loop μ-loop
-place-requires c κs = search needs
-
-mul-n : tie.Need-mul-n Inv-loop μ-loop
-mul-n c = search needs
-
-add-n : tie.Need-add-n Inv-loop μ-loop
-add-n c = search needs
-
-element-copy-out-n : tie.Need-element-copy-out-n Inv-loop μ-loop
-element-copy-out-n c = search needs
-
-power-requires : tie.Need-power-requires Inv-loop μ-loop
-power-requires c κs = search needs
-
-mul-powers : tie.Need-mul-powers Inv-loop μ-loop
-mul-powers c = search needs
-
-add-powers : tie.Need-add-powers Inv-loop μ-loop
-add-powers c = search needs
-
-element-write-powers : tie.Need-element-write-powers Inv-loop μ-loop
-element-write-powers c = search needs
-
-add-u : tie.Need-add-u Inv-loop μ-loop
-add-u c = search needs
-
-loop-less : tie.Need-loop-less Inv-loop μ-loop
-loop-less c = search needs
-
 loop-again : tie.Need-loop-again Inv-loop μ-loop
 loop-again c = search power-go
 
@@ -60,16 +27,16 @@ owners-into-spec =
     Inv-loop
     μ-loop
     loop-holds
-    element-copy-out-o
-    place-requires
-    mul-n
-    add-n
-    element-copy-out-n
-    power-requires
-    mul-powers
-    add-powers
-    element-write-powers
-    add-u
-    loop-less
+    (λ c. search needs)
+    (λ c κs. search needs)
+    (λ c. search needs)
+    (λ c. search needs)
+    (λ c. search needs)
+    (λ c κs. search needs)
+    (λ c. search needs)
+    (λ c. search needs)
+    (λ c. search needs)
+    (λ c. search needs)
+    (λ c. search needs)
     loop-again
     returns)

@@ -13,24 +13,9 @@ returns-2 : tie.Need-returns-2
 unfolding meets
 returns-2 c = search (tests, needs) depth 8
 
-cast-if3 : tie.Need-cast-if3
-cast-if3 c = search needs
-
-add-if3 : tie.Need-add-if3
-add-if3 c = search needs
-
 returns-3 : tie.Need-returns-3
 unfolding meets
 returns-3 c = search (tests, needs) depth 8
-
-cast-result : tie.Need-cast-result
-cast-result c = search needs
-
-cast-result-2 : tie.Need-cast-result-2
-cast-result-2 c = search needs
-
-add-result : tie.Need-add-result
-add-result c = search needs
 
 returns-4 : tie.Need-returns-4
 unfolding meets
@@ -42,10 +27,10 @@ meets-spec =
     (tie.spec
     returns
     returns-2
-    cast-if3
-    add-if3
+    (λ c. search needs)
+    (λ c. search needs)
     returns-3
-    cast-result
-    cast-result-2
-    add-result
+    (λ c. search needs)
+    (λ c. search needs)
+    (λ c. search needs)
     returns-4)

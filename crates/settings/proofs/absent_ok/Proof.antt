@@ -25,9 +25,6 @@ returns-5 : tie.Need-returns-5
 unfolding absentTest
 returns-5 c = search tests depth 10
 
-zero-registers-requires : tie.Need-zero-registers-requires
-zero-registers-requires c κs = search needs
-
 returns-6 : tie.Need-returns-6
 unfolding absentTest
 returns-6 c = search tests depth 10
@@ -35,4 +32,4 @@ returns-6 c = search tests depth 10
 pub absent-ok-spec : {M : Type 1} → statement M
 absent-ok-spec =
     tie.close
-    (tie.spec returns returns-2 returns-3 returns-4 returns-5 zero-registers-requires returns-6)
+    (tie.spec returns returns-2 returns-3 returns-4 returns-5 (λ c κs. search needs) returns-6)

@@ -9,29 +9,14 @@ use Rattle.sound.proofs.is_sound.Tie as tie
 held-at : (c : tie.Start) → Held (c .args .s)
 held-at c = held (c .args .s) _ (c .good .0)
 
-head-ok-requires : tie.Need-head-ok-requires
-head-ok-requires c κs = search needs
-
 returns : tie.Need-returns
 returns c = search head-no
-
-later-table-requires : tie.Need-later-table-requires
-later-table-requires c κs = search needs
-
-slots-ok-requires : tie.Need-slots-ok-requires
-slots-ok-requires c κs = search needs
 
 returns-2 : tie.Need-returns-2
 returns-2 c = search (slots-no, passed, held-at) depth 10
 
-all-apart-requires : tie.Need-all-apart-requires
-all-apart-requires c κs = search needs
-
 returns-3 : tie.Need-returns-3
 returns-3 c = search (apart-no, passed, held-at) depth 10
-
-guests-ok-requires : tie.Need-guests-ok-requires
-guests-ok-requires c κs = search needs
 
 returns-4 : tie.Need-returns-4
 returns-4 c = search (guests-no, passed, held-at) depth 10
@@ -42,9 +27,6 @@ permits-ok-requires c κs = search (owners-yes, needs)
 returns-5 : tie.Need-returns-5
 returns-5 c = search (permits-no, passed, held-at) depth 10
 
-entries-ok-requires : tie.Need-entries-ok-requires
-entries-ok-requires c κs = search needs
-
 returns-6 : tie.Need-returns-6
 returns-6 c = search (entries-say, passed, held-at) depth 10
 
@@ -52,16 +34,16 @@ pub is-sound-spec : {M : Type 1} → statement M
 is-sound-spec =
     tie.close
     (tie.spec
-    head-ok-requires
+    (λ c κs. search needs)
     returns
-    later-table-requires
-    slots-ok-requires
+    (λ c κs. search needs)
+    (λ c κs. search needs)
     returns-2
-    all-apart-requires
+    (λ c κs. search needs)
     returns-3
-    guests-ok-requires
+    (λ c κs. search needs)
     returns-4
     permits-ok-requires
     returns-5
-    entries-ok-requires
+    (λ c κs. search needs)
     returns-6)

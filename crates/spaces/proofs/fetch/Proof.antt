@@ -5,20 +5,14 @@ use Rattle.spaces.proofs.Ready.{ready-sound, ready-room, refuses, fetch
 use Rattle.spaces.proofs.fetch.Statement.{statement}
 use Rattle.spaces.proofs.fetch.Tie as tie
 
-is-ready-requires : tie.Need-is-ready-requires
-is-ready-requires c κs = search needs
-
 returns : tie.Need-returns
 returns c = search (refuses, tests)
 
 fetch-requires : tie.Need-fetch-requires
 fetch-requires c κs = search (needs, tests, ready-sound, ready-room)
 
-same-length : tie.Need-same-length
-same-length c = search needs
-
 returns-2 : tie.Need-returns-2
 returns-2 c = search (fetches, tests)
 
 pub fetch-spec : {M : Type 1} → statement M
-fetch-spec = tie.close (tie.spec is-ready-requires returns fetch-requires same-length returns-2)
+fetch-spec = tie.close (tie.spec (λ c κs. search needs) returns fetch-requires (λ c. search needs) returns-2)

@@ -5,9 +5,6 @@ use Rattle.spaces.proofs.Ready.{ready-sound, refuses, asks}
 use Rattle.spaces.proofs.query.Statement.{statement}
 use Rattle.spaces.proofs.query.Tie as tie
 
-is-ready-requires : tie.Need-is-ready-requires
-is-ready-requires c κs = search needs
-
 returns : tie.Need-returns
 returns c = search (refuses, tests)
 
@@ -18,4 +15,4 @@ returns-2 : tie.Need-returns-2
 returns-2 c = search (asks, tests)
 
 pub query-spec : {M : Type 1} → statement M
-query-spec = tie.close (tie.spec is-ready-requires returns query-requires returns-2)
+query-spec = tie.close (tie.spec (λ c κs. search needs) returns query-requires returns-2)

@@ -5,20 +5,14 @@ use Rattle.spaces.proofs.Ready.{ready-sound, ready-room, refuses, store
 use Rattle.spaces.proofs.store.Statement.{statement}
 use Rattle.spaces.proofs.store.Tie as tie
 
-is-ready-requires : tie.Need-is-ready-requires
-is-ready-requires c κs = search needs
-
 returns : tie.Need-returns
 returns c = search (refuses, tests)
 
 store-requires : tie.Need-store-requires
 store-requires c κs = search (needs, tests, ready-sound, ready-room)
 
-same-length : tie.Need-same-length
-same-length c = search needs
-
 returns-2 : tie.Need-returns-2
 returns-2 c = search (stores, tests)
 
 pub store-spec : {M : Type 1} → statement M
-store-spec = tie.close (tie.spec is-ready-requires returns store-requires same-length returns-2)
+store-spec = tie.close (tie.spec (λ c κs. search needs) returns store-requires (λ c. search needs) returns-2)

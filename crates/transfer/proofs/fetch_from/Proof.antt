@@ -6,15 +6,9 @@ use borrow.Author.Needs.{needs}
 use Rattle.transfer.proofs.fetch_from.Statement.{statement}
 use Rattle.transfer.proofs.fetch_from.Tie as tie
 
-fits-requires : tie.Need-fits-requires
-fits-requires c κs = search needs
-
 returns : tie.Need-returns
 unfolding fetchAnswer fetched
 returns c = search tests depth 8
-
-place-of-requires : tie.Need-place-of-requires
-place-of-requires c κs = search needs
 
 sub-fill : tie.Need-sub-fill
 sub-fill c = search lending
@@ -22,14 +16,8 @@ sub-fill c = search lending
 part-fill-start : tie.Need-part-fill-start
 part-fill-start c = search lending
 
-part-fill-end : tie.Need-part-fill-end
-part-fill-end c = search needs
-
 fill-requires : tie.Need-fill-requires
 fill-requires c κs = search lending
-
-same-length : tie.Need-same-length
-same-length c = search needs
 
 returns-2 : tie.Need-returns-2
 unfolding fetchAnswer
@@ -39,12 +27,12 @@ pub fetch-from-spec : {M : Type 1} → statement M
 fetch-from-spec =
     tie.close
     (tie.spec
-    fits-requires
+    (λ c κs. search needs)
     returns
-    place-of-requires
+    (λ c κs. search needs)
     sub-fill
     part-fill-start
-    part-fill-end
+    (λ c. search needs)
     fill-requires
-    same-length
+    (λ c. search needs)
     returns-2)

@@ -6,22 +6,13 @@ use borrow.Author.Needs.{needs}
 use Rattle.transfer.proofs.store_to.Statement.{statement}
 use Rattle.transfer.proofs.store_to.Tie as tie
 
-fits-requires : tie.Need-fits-requires
-fits-requires c κs = search needs
-
 returns : tie.Need-returns
 unfolding storeAnswer stored
 returns c = search tests depth 8
 
-writes-requires : tie.Need-writes-requires
-writes-requires c κs = search needs
-
 returns-2 : tie.Need-returns-2
 unfolding storeAnswer stored
 returns-2 c = search tests depth 8
-
-place-of-requires : tie.Need-place-of-requires
-place-of-requires c κs = search needs
 
 sub-put : tie.Need-sub-put
 sub-put c = search lending
@@ -29,14 +20,8 @@ sub-put c = search lending
 part-put-start : tie.Need-part-put-start
 part-put-start c = search lending
 
-part-put-end : tie.Need-part-put-end
-part-put-end c = search needs
-
 put-requires : tie.Need-put-requires
 put-requires c κs = search lending
-
-same-length : tie.Need-same-length
-same-length c = search needs
 
 returns-3 : tie.Need-returns-3
 unfolding storeAnswer
@@ -46,14 +31,14 @@ pub store-to-spec : {M : Type 1} → statement M
 store-to-spec =
     tie.close
     (tie.spec
-    fits-requires
+    (λ c κs. search needs)
     returns
-    writes-requires
+    (λ c κs. search needs)
     returns-2
-    place-of-requires
+    (λ c κs. search needs)
     sub-put
     part-put-start
-    part-put-end
+    (λ c. search needs)
     put-requires
-    same-length
+    (λ c. search needs)
     returns-3)

@@ -5,12 +5,6 @@ use borrow.Author.Needs.{needs}
 use Rattle.transfer.proofs.writes.Statement.{statement}
 use Rattle.transfer.proofs.writes.Tie as tie
 
-enum-told : tie.Need-enum-told
-enum-told c = search needs
-
-enum-told-2 : tie.Need-enum-told-2
-enum-told-2 c = search needs
-
 returns : tie.Need-returns
 unfolding writes
 returns c = search (tests, needs) depth 8
@@ -20,4 +14,4 @@ unfolding writes
 returns-2 c = search (tests, needs) depth 8
 
 pub writes-spec : {M : Type 1} → statement M
-writes-spec = tie.close (tie.spec enum-told enum-told-2 returns returns-2)
+writes-spec = tie.close (tie.spec (λ c. search needs) (λ c. search needs) returns returns-2)

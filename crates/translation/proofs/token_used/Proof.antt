@@ -13,16 +13,10 @@ returns-2 : tie.Need-returns-2
 unfolding tokenUsed
 returns-2 c = search (tests, needs) depth 8
 
-mul-result : tie.Need-mul-result
-mul-result c = search needs
-
-element-copy-out-result : tie.Need-element-copy-out-result
-element-copy-out-result c = search needs
-
 returns-3 : tie.Need-returns-3
 unfolding tokenUsed
 returns-3 c = search (tests, needs) depth 8
 
 pub token-used-spec : {M : Type 1} → statement M
 token-used-spec =
-    tie.close (tie.spec returns returns-2 mul-result element-copy-out-result returns-3)
+    tie.close (tie.spec returns returns-2 (λ c. search needs) (λ c. search needs) returns-3)

@@ -6,9 +6,6 @@ use borrow.Author.Needs.{needs}
 use Rattle.translation.proofs.translate.Statement.{statement}
 use Rattle.translation.proofs.translate.Tie as tie
 
-find-named-requires : tie.Need-find-named-requires
-find-named-requires c κs = search needs
-
 cast-t8 : tie.Need-cast-t8
 cast-t8 c = search (primary-small, needs)
 
@@ -16,29 +13,17 @@ returns : tie.Need-returns
 unfolding translatedBy
 returns c = search (translation, tests) depth 8
 
-is-malformed-requires : tie.Need-is-malformed-requires
-is-malformed-requires c κs = search needs
-
 returns-2 : tie.Need-returns-2
 unfolding translatedBy
 returns-2 c = search (translation, tests) depth 8
-
-add-if3 : tie.Need-add-if3
-add-if3 c = search needs
 
 returns-3 : tie.Need-returns-3
 unfolding translatedBy
 returns-3 c = search (translation, tests) depth 8
 
-cast-if4 : tie.Need-cast-if4
-cast-if4 c = search needs
-
 returns-4 : tie.Need-returns-4
 unfolding translatedBy
 returns-4 c = search (translation, tests) depth 8
-
-through-requires : tie.Need-through-requires
-through-requires c κs = search needs
 
 returns-5 : tie.Need-returns-5
 unfolding translatedBy
@@ -48,14 +33,14 @@ pub translate-spec : {M : Type 1} → statement M
 translate-spec =
     tie.close
     (tie.spec
-    find-named-requires
+    (λ c κs. search needs)
     cast-t8
     returns
-    is-malformed-requires
+    (λ c κs. search needs)
     returns-2
-    add-if3
+    (λ c. search needs)
     returns-3
-    cast-if4
+    (λ c. search needs)
     returns-4
-    through-requires
+    (λ c κs. search needs)
     returns-5)

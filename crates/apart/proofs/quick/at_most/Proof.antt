@@ -5,19 +5,13 @@ use borrow.Author.Needs.{needs}
 use Rattle.apart.proofs.quick.at_most.Statement.{statement}
 use Rattle.apart.proofs.quick.at_most.Tie as tie
 
-cast-result : tie.Need-cast-result
-cast-result c = search needs
-
 returns : tie.Need-returns
 unfolding cut
 returns c = search tests depth 6
-
-cast-result-2 : tie.Need-cast-result-2
-cast-result-2 c = search needs
 
 returns-2 : tie.Need-returns-2
 unfolding cut
 returns-2 c = search tests depth 6
 
 pub at-most-spec : {M : Type 1} → statement M
-at-most-spec = tie.close (tie.spec cast-result returns cast-result-2 returns-2)
+at-most-spec = tie.close (tie.spec (λ c. search needs) returns (λ c. search needs) returns-2)

@@ -15,21 +15,6 @@ abbrev μ-loop : tie.MeasureT-loop
 loop-holds : tie.Need-loop-holds Inv-loop μ-loop
 loop-holds c = search sums
 
-add-clashes-at : tie.Need-add-clashes-at Inv-loop μ-loop
-add-clashes-at c = search needs
-
-clashes-at-requires : tie.Need-clashes-at-requires Inv-loop μ-loop
-clashes-at-requires c κs = search needs
-
-add-n : tie.Need-add-n Inv-loop μ-loop
-add-n c = search needs
-
-add-d : tie.Need-add-d Inv-loop μ-loop
-add-d c = search needs
-
-loop-less : tie.Need-loop-less Inv-loop μ-loop
-loop-less c = search needs
-
 loop-again : tie.Need-loop-again Inv-loop μ-loop
 loop-again c = search sums depth 6
 
@@ -43,10 +28,10 @@ clashes-spec =
     Inv-loop
     μ-loop
     loop-holds
-    add-clashes-at
-    clashes-at-requires
-    add-n
-    add-d
-    loop-less
+    (λ c. search needs)
+    (λ c κs. search needs)
+    (λ c. search needs)
+    (λ c. search needs)
+    (λ c. search needs)
     loop-again
     returns)

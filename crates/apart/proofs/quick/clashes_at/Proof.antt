@@ -15,90 +15,6 @@ abbrev μ-loop : tie.MeasureT-loop
 loop-holds : tie.Need-loop-holds Inv-loop μ-loop
 loop-holds c = search sums
 
-mul-same : tie.Need-mul-same Inv-loop μ-loop
-mul-same c = search needs
-
-element-copy-out-same : tie.Need-element-copy-out-same Inv-loop μ-loop
-element-copy-out-same c = search needs
-
-add-same : tie.Need-add-same Inv-loop μ-loop
-add-same c = search needs
-
-mul-same-2 : tie.Need-mul-same-2 Inv-loop μ-loop
-mul-same-2 c = search needs
-
-element-copy-out-same-2 : tie.Need-element-copy-out-same-2 Inv-loop μ-loop
-element-copy-out-same-2 c = search needs
-
-same-requires : tie.Need-same-requires Inv-loop μ-loop
-same-requires c κs = search needs
-
-mul-same-3 : tie.Need-mul-same-3 Inv-loop μ-loop
-mul-same-3 c = search needs
-
-element-copy-out-same-3 : tie.Need-element-copy-out-same-3 Inv-loop μ-loop
-element-copy-out-same-3 c = search needs
-
-add-same-2 : tie.Need-add-same-2 Inv-loop μ-loop
-add-same-2 c = search needs
-
-mul-same-4 : tie.Need-mul-same-4 Inv-loop μ-loop
-mul-same-4 c = search needs
-
-element-copy-out-same-4 : tie.Need-element-copy-out-same-4 Inv-loop μ-loop
-element-copy-out-same-4 c = search needs
-
-same-requires-2 : tie.Need-same-requires-2 Inv-loop μ-loop
-same-requires-2 c κs = search needs
-
-mul-meet : tie.Need-mul-meet Inv-loop μ-loop
-mul-meet c = search needs
-
-element-copy-out-meet : tie.Need-element-copy-out-meet Inv-loop μ-loop
-element-copy-out-meet c = search needs
-
-mul-meet-2 : tie.Need-mul-meet-2 Inv-loop μ-loop
-mul-meet-2 c = search needs
-
-element-copy-out-meet-2 : tie.Need-element-copy-out-meet-2 Inv-loop μ-loop
-element-copy-out-meet-2 c = search needs
-
-add-meet : tie.Need-add-meet Inv-loop μ-loop
-add-meet c = search needs
-
-mul-meet-3 : tie.Need-mul-meet-3 Inv-loop μ-loop
-mul-meet-3 c = search needs
-
-element-copy-out-meet-3 : tie.Need-element-copy-out-meet-3 Inv-loop μ-loop
-element-copy-out-meet-3 c = search needs
-
-add-meet-2 : tie.Need-add-meet-2 Inv-loop μ-loop
-add-meet-2 c = search needs
-
-mul-meet-4 : tie.Need-mul-meet-4 Inv-loop μ-loop
-mul-meet-4 c = search needs
-
-element-copy-out-meet-4 : tie.Need-element-copy-out-meet-4 Inv-loop μ-loop
-element-copy-out-meet-4 c = search needs
-
-meet-requires : tie.Need-meet-requires Inv-loop μ-loop
-meet-requires c κs = search needs
-
-add-n : tie.Need-add-n Inv-loop μ-loop
-add-n c = search needs
-
-add-n-2 : tie.Need-add-n-2 Inv-loop μ-loop
-add-n-2 c = search needs
-
-add-n-3 : tie.Need-add-n-3 Inv-loop μ-loop
-add-n-3 c = search needs
-
-add-u : tie.Need-add-u Inv-loop μ-loop
-add-u c = search needs
-
-loop-less : tie.Need-loop-less Inv-loop μ-loop
-loop-less c = search needs
-
 loop-again : tie.Need-loop-again Inv-loop μ-loop
 loop-again c = search sums depth 6
 
@@ -112,33 +28,33 @@ clashes-at-spec =
     Inv-loop
     μ-loop
     loop-holds
-    mul-same
-    element-copy-out-same
-    add-same
-    mul-same-2
-    element-copy-out-same-2
-    same-requires
-    mul-same-3
-    element-copy-out-same-3
-    add-same-2
-    mul-same-4
-    element-copy-out-same-4
-    same-requires-2
-    mul-meet
-    element-copy-out-meet
-    mul-meet-2
-    element-copy-out-meet-2
-    add-meet
-    mul-meet-3
-    element-copy-out-meet-3
-    add-meet-2
-    mul-meet-4
-    element-copy-out-meet-4
-    meet-requires
-    add-n
-    add-n-2
-    add-n-3
-    add-u
-    loop-less
+    (λ c. search needs)
+    (λ c. search needs)
+    (λ c. search needs)
+    (λ c. search needs)
+    (λ c. search needs)
+    (λ c κs. search needs)
+    (λ c. search needs)
+    (λ c. search needs)
+    (λ c. search needs)
+    (λ c. search needs)
+    (λ c. search needs)
+    (λ c κs. search needs)
+    (λ c. search needs)
+    (λ c. search needs)
+    (λ c. search needs)
+    (λ c. search needs)
+    (λ c. search needs)
+    (λ c. search needs)
+    (λ c. search needs)
+    (λ c. search needs)
+    (λ c. search needs)
+    (λ c. search needs)
+    (λ c κs. search needs)
+    (λ c. search needs)
+    (λ c. search needs)
+    (λ c. search needs)
+    (λ c. search needs)
+    (λ c. search needs)
     loop-again
     returns)

@@ -5,22 +5,13 @@ use borrow.Author.Needs.{needs}
 use Rattle.apart.proofs.quick.name_mark.Statement.{statement}
 use Rattle.apart.proofs.quick.name_mark.Tie as tie
 
-sub-result : tie.Need-sub-result
-sub-result c = search needs
-
-cast-result : tie.Need-cast-result
-cast-result c = search needs
-
 returns : tie.Need-returns
 unfolding nameMark
 returns c = search tests depth 6
-
-spread-requires : tie.Need-spread-requires
-spread-requires c κs = search needs
 
 returns-2 : tie.Need-returns-2
 unfolding nameMark
 returns-2 c = search tests depth 6
 
 pub name-mark-spec : {M : Type 1} → statement M
-name-mark-spec = tie.close (tie.spec sub-result cast-result returns spread-requires returns-2)
+name-mark-spec = tie.close (tie.spec (λ c. search needs) (λ c. search needs) returns (λ c κs. search needs) returns-2)

@@ -16,32 +16,8 @@ Inv-loop held₀ scratch₀ input room₀ text₀ session₀ at₀ from₀ held 
 abbrev μ-loop : tie.MeasureT-loop
 μ-loop held₀ scratch₀ input room₀ text₀ session₀ at₀ from₀ held scratch room text session at from = length input - from
 
-loop-holds : tie.Need-loop-holds Inv-loop μ-loop
-loop-holds c = search needs
-
-sub-feed : tie.Need-sub-feed Inv-loop μ-loop
-sub-feed c = search needs
-
-part-feed-start : tie.Need-part-feed-start Inv-loop μ-loop
-part-feed-start c = search needs
-
-part-feed-end : tie.Need-part-feed-end Inv-loop μ-loop
-part-feed-end c = search needs
-
-feed-requires : tie.Need-feed-requires Inv-loop μ-loop
-feed-requires c κs = search needs
-
-sub-append : tie.Need-sub-append Inv-loop μ-loop
-sub-append c = search needs
-
-part-append-start : tie.Need-part-append-start Inv-loop μ-loop
-part-append-start c = search needs
-
 part-append-end : tie.Need-part-append-end Inv-loop μ-loop
 part-append-end c = let k = fed-written _ _ _ _ _ _ _ (c .before .before .before .before .before .before .before .feed .ensures) in omega (arith, k)
-
-append-requires : tie.Need-append-requires Inv-loop μ-loop
-append-requires c κs = search needs
 
 add-from : tie.Need-add-from Inv-loop μ-loop
 add-from c = let k = fed-within _ _ _ _ _ _ _ (c .before .before .before .before .before .before .before .before .before .before .before .before .feed .ensures) in omega (arith, k)
@@ -56,37 +32,25 @@ loop-less c =
 loop-again : tie.Need-loop-again Inv-loop μ-loop
 loop-again c = let k = fed-within _ _ _ _ _ _ _ (c .before .before .before .before .before .before .before .before .before .before .before .before .feed .ensures) in omega (arith, k)
 
-same-length : tie.Need-same-length Inv-loop μ-loop
-same-length c = search needs
-
-same-length-2 : tie.Need-same-length-2 Inv-loop μ-loop
-same-length-2 c = search needs
-
-same-length-3 : tie.Need-same-length-3 Inv-loop μ-loop
-same-length-3 c = search needs
-
-returns : tie.Need-returns Inv-loop μ-loop
-returns c = search needs
-
 pub feed-piece-spec : {M : Type 1} → statement M
 feed-piece-spec =
     tie.close
     (tie.spec
     Inv-loop
     μ-loop
-    loop-holds
-    sub-feed
-    part-feed-start
-    part-feed-end
-    feed-requires
-    sub-append
-    part-append-start
+    (λ c. search needs)
+    (λ c. search needs)
+    (λ c. search needs)
+    (λ c. search needs)
+    (λ c κs. search needs)
+    (λ c. search needs)
+    (λ c. search needs)
     part-append-end
-    append-requires
+    (λ c κs. search needs)
     add-from
     loop-less
     loop-again
-    same-length
-    same-length-2
-    same-length-3
-    returns)
+    (λ c. search needs)
+    (λ c. search needs)
+    (λ c. search needs)
+    (λ c. search needs))

@@ -21,15 +21,6 @@ returns-4 : tie.Need-returns-4
 unfolding liveWith
 returns-4 c = search (tests, needs) depth 8
 
-cast-if5 : tie.Need-cast-if5
-cast-if5 c = search needs
-
-cast-if5-2 : tie.Need-cast-if5-2
-cast-if5-2 c = search needs
-
-add-if5 : tie.Need-add-if5
-add-if5 c = search needs
-
 returns-5 : tie.Need-returns-5
 unfolding liveWith
 returns-5 c = search (tests, needs) depth 8
@@ -37,9 +28,6 @@ returns-5 c = search (tests, needs) depth 8
 returns-6 : tie.Need-returns-6
 unfolding liveWith
 returns-6 c = search (tests, needs) depth 8
-
-good-name-by-requires : tie.Need-good-name-by-requires
-good-name-by-requires c κs = search needs
 
 returns-7 : tie.Need-returns-7
 unfolding liveWith
@@ -53,10 +41,10 @@ live-ok-spec =
     returns-2
     returns-3
     returns-4
-    cast-if5
-    cast-if5-2
-    add-if5
+    (λ c. search needs)
+    (λ c. search needs)
+    (λ c. search needs)
     returns-5
     returns-6
-    good-name-by-requires
+    (λ c κs. search needs)
     returns-7)

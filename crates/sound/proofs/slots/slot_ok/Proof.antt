@@ -5,19 +5,13 @@ use borrow.Author.Needs.{needs}
 use Rattle.sound.proofs.slots.slot_ok.Statement.{statement}
 use Rattle.sound.proofs.slots.slot_ok.Tie as tie
 
-dead-ok-requires : tie.Need-dead-ok-requires
-dead-ok-requires c κs = search needs
-
 returns : tie.Need-returns
 unfolding slotWith
 returns c = search (tests, needs) depth 8
-
-live-ok-requires : tie.Need-live-ok-requires
-live-ok-requires c κs = search needs
 
 returns-2 : tie.Need-returns-2
 unfolding slotWith
 returns-2 c = search (tests, needs) depth 8
 
 pub slot-ok-spec : {M : Type 1} → statement M
-slot-ok-spec = tie.close (tie.spec dead-ok-requires returns live-ok-requires returns-2)
+slot-ok-spec = tie.close (tie.spec (λ c κs. search needs) returns (λ c κs. search needs) returns-2)

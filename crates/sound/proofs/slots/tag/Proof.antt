@@ -5,9 +5,6 @@ use borrow.Author.Needs.{needs}
 use Rattle.sound.proofs.slots.tag.Statement.{statement}
 use Rattle.sound.proofs.slots.tag.Tie as tie
 
-add-result : tie.Need-add-result
-add-result c = search needs
-
 returns : tie.Need-returns
 unfolding tagOf
 returns c = (search tests depth 6, search needs)
@@ -17,4 +14,4 @@ unfolding tagOf
 returns-2 c = (search tests depth 6, search needs)
 
 pub tag-spec : {M : Type 1} → statement M
-tag-spec = tie.close (tie.spec add-result returns returns-2)
+tag-spec = tie.close (tie.spec (λ c. search needs) returns returns-2)
