@@ -4,7 +4,7 @@ use Prim.Native.Nat.{ℕ, _+_, _≤_, _<_}
 use mathlib.Core.Bool.{true, false}
 use mathlib.Core.List.{List}
 use mathlib.Core.Logic.{_≢_}
-use mathlib.Core.Path.{_≡_, refl, ap, _∙_}
+use mathlib.Core.Path.{_≡_, refl, sym, ap, _∙_}
 use native.Mathlib.Decide.{ℕ-discrete}
 use native.Mathlib.Omega.{arith}
 use lib.ListN.{length, set, length-set}
@@ -20,14 +20,15 @@ use Rattle.model.specs.declared.State.{State}
 use Rattle.model.specs.Calls.{newSpace, newGuest, enrolling}
 use Rattle.model.specs.Changes.{spaceAdded, applied}
 use Rattle.model.specs.Decision.{Decision, after}
+use Rattle.model.specs.Frames.{layout, frameOf}
 use Rattle.model.specs.Granted.{Made, Created}
 use Rattle.model.specs.Names.{blanks, nameRest, nameForm, nameBytes, goodName, baseName}
 use Rattle.model.specs.Runs.{IsRun}
 use Rattle.model.specs.Searches.{enrolled, slotNamed, primarySlot, primaries, dataSpaces, freeSlot, freeRun}
 use Rattle.model.specs.Sizes.{maxAllowance, maxList}
 use Rattle.model.specs.Sound.{Live, IsGuest, GuestsOk, PermitsOk, EntriesOk, Sound}
-use Rattle.model.specs.Tables.{noGuest, spaceAt, guestAt, guestPlace, cpuAt, withGuests}
-use Rattle.model.proofs.NewSpace.{Fits, stands, spaces-made, primary-made, data-made, others-made, no-primaries, no-data}
+use Rattle.model.specs.Tables.{noSpace, noGuest, spaceAt, guestAt, guestPlace, cpuAt, withGuests}
+use Rattle.model.proofs.NewSpace.{Fits, Placed, stands, spaces-made, primary-made, data-made, others-made, no-primaries, no-data}
 use Rattle.model.proofs.Runs.{lowest-run, lowest-slot}
 use Rattle.model.proofs.Searches.{live-slot, enrolled-guest, enrolled-is, enrolled-of, named-none, primary-lt}
 
@@ -149,7 +150,7 @@ sound-made : (s : State) (hs : List Guest) (g name pages : ℕ) (c : Change) (d 
     → Keeps (s .guests) hs g → Settled (spacesAfter s g name pages) (guestAt hs g) (cpuAt (s .cpus) (guestPlace g)) g
     → 1 ≤ pages → goodName name ≡ true → ((u : ℕ) → Live (s .spaces) u → spaceAt (s .spaces) u .owner ≡ g → spaceAt (s .spaces) u .name ≡ name → ⊥)
     → Sound (after s d)
-unfolding newSpace
+unfolding newSpace frameOf
 sound-made s hs g name pages c d ok to m k caller pos good new = rw (m .is, to) (record {
   head = record {
     frames-low = ok .head .frames-low;
@@ -157,7 +158,7 @@ sound-made s hs g name pages c d ok to m k caller pos good new = rw (m .is, to) 
     next-low = omega arith;
     next-high = omega (arith, m .next);
   };
-  spaces = spaces-made (s .spaces) j x (ok .spaces .len) (m .slot) free (s .frames) (s .next) (s .guests) hs (ok .spaces) (still (s .guests) hs g k) fits;
+  spaces = spaces-made (s .spaces) j x (ok .spaces .len) (m .slot) free (s .frames) (s .next) (s .guests) hs (layout s) (set (s .spaces) j x) (ok .spaces) (still (s .guests) hs g k) fits placed;
   guests = guests-made s ok hs x k j (m .slot) free caller;
   permits = permits-made s ok hs x k j (m .slot) free;
   entries = entries-made s ok hs x k j (m .slot) free;
@@ -175,16 +176,26 @@ sound-made s hs g name pages c d ok to m k caller pos good new = rw (m .is, to) 
     run : IsRun s pages (freeRun s pages)
     run = lowest-run s pages .found (m .run)
 
-    fits : Fits (s .frames) (s .next) hs (s .spaces) x
+    fits : Fits (s .next) hs (s .spaces) x
     fits = record {
       live = ok .head .next-low;
       id = refl;
       owner = k .caller;
       pages = pos;
-      inside = run .inside;
-      free = λ u p q l. run .free u p q (live-slot (s .spaces) u 32 (ok .spaces .len) l) l;
       name = good;
       new = new;
+    }
+
+    -- the run that was free
+    own-frame : (p : ℕ) → frameOf (set (s .spaces) j x) j p ≡ freeRun s pages + p
+    own-frame p = ap (λ (y : Space). y .first + p) (getD-set-same (s .spaces) j x noSpace (rw (ok .spaces .len) (m .slot)))
+
+    placed : Placed (s .frames) (s .spaces) j x (layout s) (set (s .spaces) j x)
+    placed = record {
+      others = λ u p l. ap (λ (y : Space). y .first + p) (stands (s .spaces) j x (ok .spaces .len) (m .slot) free u l);
+      inside = λ p h. rw (own-frame p) (omega (arith, run .inside));
+      own = λ p q a b e. omega (arith, sym (own-frame p) ∙ e ∙ own-frame q);
+      free = λ u p q l a b e. run .free u p q (live-slot (s .spaces) u 32 (ok .spaces .len) l) l a b (e ∙ own-frame q);
     }
 
 -- an enrolled guest has a space named BASE

@@ -15,7 +15,7 @@ use Rattle.lists.proofs.Counts.{count-same, count-more, count-none}
 use Rattle.lists.proofs.Maps.{at-set}
 use Rattle.model.specs.declared.Guest.{Guest}
 use Rattle.model.specs.declared.Space.{Space}
-use Rattle.model.specs.Frames.{frameOf}
+use Rattle.model.specs.Frames.{Layout, frameOf}
 use Rattle.model.specs.Names.{goodName, baseName}
 use Rattle.model.specs.Searches.{enrolled, isOwned, isPrimary, isData, primaries, dataSpaces}
 use Rattle.model.specs.Sound.{Live, SpacesOk}
@@ -36,23 +36,23 @@ module _ (ss : List Space) (g : ℕ) (none : (u : ℕ) → Live ss u → spaceAt
   unfolding dataSpaces
   no-data = count-none _ 32 (λ u _. both-no _ (not-owned g (spaceAt ss u) (none u)))
 
--- What a space has to be to go into a sound table: its owner is enrolled, its identification is the next, no live space
--- has a frame of it, and none of its owner's has its name.
-pub record Fits (F next : ℕ) (gs : List Guest) (ss : List Space) (x : Space) : Type 0 where
+-- What a space has to be to go into a sound table: its owner is enrolled, its identification is the next, and no space of its
+-- owner has its name.
+pub record Fits (next : ℕ) (gs : List Guest) (ss : List Space) (x : Space) : Type 0 where
   pub live : 1 ≤ x .id
   pub id : x .id ≡ next
   pub owner : enrolled gs (x .owner) ≡ true
   pub pages : 1 ≤ x .pages
-  pub inside : x .first + x .pages ≤ F
-  pub free : (u p q : ℕ) → Live ss u → p < spaceAt ss u .pages → q < x .pages → frameOf ss u p ≢ x .first + q
   pub name : goodName (x .name) ≡ true
   pub new : (u : ℕ) → Live ss u → spaceAt ss u .owner ≡ x .owner → spaceAt ss u .name ≡ x .name → ⊥
 
--- page p of y lies in the frame of page q of z
-record Meet (p q : ℕ) (y z : Space) : Type 0 where
-  left : p < y .pages
-  right : q < z .pages
-  same : y .first + p ≡ z .first + q
+-- Where its pages lie, in slot j: `l` is the layout before, `m` after. Live spaces stay where they are; each page of the new one
+-- has a frame of its own, inside F, that no live space has.
+pub record Placed (F : ℕ) (ss : List Space) (j : ℕ) (x : Space) (l m : Layout) : Type 0 where
+  pub others : (u p : ℕ) → Live ss u → frameOf m u p ≡ frameOf l u p
+  pub inside : (p : ℕ) → p < x .pages → frameOf m j p < F
+  pub own : (p q : ℕ) → p < x .pages → q < x .pages → frameOf m j p ≡ frameOf m j q → p ≡ q
+  pub free : (u p q : ℕ) → Live ss u → p < spaceAt ss u .pages → q < x .pages → frameOf l u p ≢ frameOf m j q
 
 record Namesakes (y z : Space) : Type 0 where
   owner : y .owner ≡ z .owner
@@ -81,30 +81,32 @@ module _ (ss : List Space) (j : ℕ) (x : Space) (len : length ss ≡ 32) (j-lt 
       (λ _ l. at-set (λ z. 1 ≤ z .id → Alike (spaceAt ss u) z → u ≡ v) ss j x v noSpace room (λ _ _ a. absurd (new-right u l a)) (λ _ m a. old u v l m a))
 
   -- the table stays sound, also where more guests are enrolled than before
-  pub spaces-made : (F next : ℕ) (gs hs : List Guest) → SpacesOk F next gs ss ss → ((h : ℕ) → enrolled gs h ≡ true → enrolled hs h ≡ true) → Fits F next hs ss x
-      → SpacesOk F (next + 1) hs (set ss j x) (set ss j x)
-  unfolding frameOf
-  spaces-made F next gs hs ok still f = record {
+  pub spaces-made : (F next : ℕ) (gs hs : List Guest) (l m : Layout) → SpacesOk F next gs ss l → ((h : ℕ) → enrolled gs h ≡ true → enrolled hs h ≡ true) → Fits next hs ss x
+      → Placed F ss j x l m → SpacesOk F (next + 1) hs (set ss j x) m
+  spaces-made F next gs hs l m ok still f lies = record {
     len = length-set ss j x ∙ len;
-    owner = each (λ y. enrolled hs (y .owner) ≡ true) (f .owner) (λ u l. still _ (ok .owner u l));
+    owner = each (λ y. enrolled hs (y .owner) ≡ true) (f .owner) (λ u a. still _ (ok .owner u a));
     pages = each (λ y. 1 ≤ y .pages) (f .pages) (ok .pages);
-    inside = λ u p l. each (λ y. p < y .pages → y .first + p < F) (λ h. omega (arith, f .inside)) (λ v. ok .inside v p) u l;
-    apart = λ u v p q l m a b e.
-        let same = one-frame p q u v l m (record { left = a; right = b; same = e }) in
-        (same, omega (arith, ap (λ w. spaceAt (set ss j x) w .first) same));
-    id-below = each (λ y. y .id < next + 1) (omega (arith, f .id)) (λ u l. omega (arith, ok .id-below u l));
-    id-own = apart (λ y z. y .id ≡ z .id) (λ v m e. omega (arith, f .id, ok .id-below v m)) (λ u l e. omega (arith, f .id, ok .id-below u l)) (ok .id-own);
+    inside = λ u p.
+        at-set (λ y. 1 ≤ y .id → p < y .pages → frameOf m u p < F) ss j x u noSpace room (λ e _ h. rw e (lies .inside p h)) (λ _ a h. rw (lies .others u p a) (ok .inside u p a h));
+    apart = one-frame;
+    id-below = each (λ y. y .id < next + 1) (omega (arith, f .id)) (λ u a. omega (arith, ok .id-below u a));
+    id-own = apart (λ y z. y .id ≡ z .id) (λ v b e. omega (arith, f .id, ok .id-below v b)) (λ u a e. omega (arith, f .id, ok .id-below u a)) (ok .id-own);
     name = each (λ y. goodName (y .name) ≡ true) (f .name) (ok .name);
-    name-own = λ u v l m o n. one-name u v l m (record { owner = o; name = n });
+    name-own = λ u v a b o n. one-name u v a b (record { owner = o; name = n });
     dead = λ u. at-set (λ y. y .id ≡ 0 → y ≡ noSpace) ss j x u noSpace room (λ _ e. absurd (omega (arith, f .live))) (λ _. ok .dead u);
   }
     where
-      one-frame : (p q u v : ℕ) → Live (set ss j x) u → Live (set ss j x) v → Meet p q (spaceAt (set ss j x) u) (spaceAt (set ss j x) v) → u ≡ v
-      one-frame p q =
-          apart (Meet p q)
-          (λ v l k. f .free v q p l (k .right) (k .left) (sym (k .same)))
-          (λ u l k. f .free u p q l (k .left) (k .right) (k .same))
-          (λ u v l m k. ok .apart u v p q l m (k .left) (k .right) (k .same) .0)
+      one-frame : (u v p q : ℕ) → Live (set ss j x) u → Live (set ss j x) v → p < spaceAt (set ss j x) u .pages → q < spaceAt (set ss j x) v .pages → frameOf m u p ≡ frameOf m v q
+          → (u ≡ v) × (p ≡ q)
+      one-frame u v p q =
+          at-set (λ y. 1 ≤ y .id → Live (set ss j x) v → p < y .pages → q < spaceAt (set ss j x) v .pages → frameOf m u p ≡ frameOf m v q → (u ≡ v) × (p ≡ q)) ss j x u noSpace room
+          (λ e _. at-set (λ z. 1 ≤ z .id → p < x .pages → q < z .pages → frameOf m u p ≡ frameOf m v q → (u ≡ v) × (p ≡ q)) ss j x v noSpace room
+          (λ f _ a b s. (e ∙ sym f, lies .own p q a b (rw (e, f) at s)))
+          (λ _ w a b s. absurd (lies .free v q p w b a (sym (lies .others v q w) ∙ sym s ∙ ap (λ y. frameOf m y p) e))))
+          (λ _ k. at-set (λ z. 1 ≤ z .id → p < spaceAt ss u .pages → q < z .pages → frameOf m u p ≡ frameOf m v q → (u ≡ v) × (p ≡ q)) ss j x v noSpace room
+          (λ f _ a b s. absurd (lies .free u p q k a b (sym (lies .others u p k) ∙ s ∙ ap (λ y. frameOf m y q) f)))
+          (λ _ w a b s. ok .apart u v p q k w a b (sym (lies .others u p k) ∙ s ∙ lies .others v q w)))
 
       one-name : (u v : ℕ) → Live (set ss j x) u → Live (set ss j x) v → Namesakes (spaceAt (set ss j x) u) (spaceAt (set ss j x) v) → u ≡ v
       one-name =
