@@ -6,7 +6,7 @@ use mathlib.Core.Path.{_≡_, refl, sym, ap, _∙_}
 use native.Mathlib.Decide.{ℕ-discrete, decLe}
 use native.Mathlib.Omega.{arith}
 use Rattle.lists.specs.Choice.{choose}
-use Rattle.lists.specs.Places.{lowest, count}
+use Rattle.lists.specs.Places.{lowest, count, oneIf}
 use Rattle.lists.proofs.Choice.{yes!, no!, true-false}
 use Rattle.lists.proofs.Places.{lowest-least}
 
@@ -32,6 +32,26 @@ pub count-none : (p : ℕ → Bool) (n : ℕ) → ((k : ℕ) → k < n → p k �
 unfolding count
 count-none p zero h = refl
 count-none p (suc n) h = no! _ _ (h n (omega arith)) ∙ count-none p n (λ k a. h k (omega arith))
+
+-- one turn of a loop that adds 1 or 0
+pub count-turn : (p : ℕ → Bool) (n k y : ℕ) → n ≡ count p k → y ≡ oneIf (p k) → n + y ≡ count p (k + 1)
+unfolding oneIf
+count-turn p n k y e v = go (p k) refl v
+  where
+    go : (b : Bool) → p k ≡ b → y ≡ oneIf b → n + y ≡ count p (k + 1)
+    go true h w = omega (arith, e, w, count-yes p k h)
+    go false h w = omega (arith, e, w, count-no p k h)
+
+-- where nothing is counted, no place passes
+pub uncounted : (p : ℕ → Bool) (n : ℕ) → count p n ≡ 0 → (k : ℕ) → k < n → p k ≡ false
+unfolding count choose
+uncounted p zero e k l = absurd (omega arith)
+uncounted p (suc n) e k l = go (p n) refl e (ℕ-discrete k n) (λ z m. uncounted p n z k m)
+  where
+    go : (b : Bool) → p n ≡ b → choose b (count p n + 1) (count p n) ≡ 0 → Dec (k ≡ n) → (count p n ≡ 0 → k < n → p k ≡ false) → p k ≡ false
+    go true h z d f = absurd (omega (arith, z))
+    go false h z (yes q) f = rw q h
+    go false h z (no q) f = f z (omega arith)
 
 pub count-most : (p : ℕ → Bool) (n : ℕ) → count p n ≤ n
 unfolding count choose

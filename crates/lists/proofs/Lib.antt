@@ -3,6 +3,7 @@ pub mod Decides
 pub mod Places
 pub mod Lowest
 pub mod Counts
+pub mod Counting
 pub mod Maps
 pub mod Bytes
 pub mod Parts

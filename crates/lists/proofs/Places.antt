@@ -102,6 +102,15 @@ module _ (p : ℕ → Bool) where
   unfolding lowestFrom
   lowest-end i e h = let q : e - i ≡ 0 = omega arith in rw q
 
+  -- many turns at once
+  pub lowest-skip : (m i e : ℕ) → i + m ≤ e → ((k : ℕ) → k < m → p (i + k) ≡ false) → lowestFrom p i (e - i) ≡ lowestFrom p (i + m) (e - (i + m))
+  lowest-skip zero i e h none = let q : i + 0 ≡ i = omega arith in rw q
+  lowest-skip (suc m) i e h none = go (lowest-skip m i e (omega arith) (λ k l. none k (omega arith))) (lowest-no (i + m) e (omega arith) (none m (omega arith)))
+    where
+      go : lowestFrom p i (e - i) ≡ lowestFrom p (i + m) (e - (i + m)) → lowestFrom p (i + m) (e - (i + m)) ≡ lowestFrom p (i + m + 1) (e - (i + m + 1))
+          → lowestFrom p i (e - i) ≡ lowestFrom p (i + suc m) (e - (i + suc m))
+      go a b = let q : i + suc m ≡ i + m + 1 = omega arith in rw q (a ∙ b)
+
   pub lowest-le : (n : ℕ) → lowest p n ≤ n
   unfolding lowest
   lowest-le n = omega (arith, lowest-from-le 0 n)

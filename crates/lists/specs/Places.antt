@@ -28,6 +28,11 @@ unfoldable pub count : (ℕ → Bool) → ℕ → ℕ
 count p zero = 0
 count p (suc n) = choose (p n) (count p n + 1) (count p n)
 
+-- a test as a number
+unfoldable pub oneIf : Bool → ℕ
+oneIf true = 1
+oneIf false = 0
+
 -- the element at each place, changed by f, which sees the place; the list starts at place i
 unfoldable pub mapFrom : {A : Type 0} → (ℕ → A → A) → ℕ → List A → List A
 mapFrom f i [] = []

@@ -1,16 +1,55 @@
 // Bytes found in a slice and moved between slices.
-ghost use Prim.Native.Nat.{_≤_};
+ghost use Prim.Native.Nat.{_+_, _≤_};
 ghost use mathlib.Core.Path.{_≡_};
+ghost use lib.Dec.{eqb};
 ghost use lib.ListN.{length, replicate};
 ghost use Rattle.lists.specs.Bytes.{over, part};
-ghost use Rattle.moves.specs.Found.{byteFrom};
+ghost use Rattle.lists.specs.Places.{oneIf};
+ghost use Rattle.moves.specs.Found.{byteFrom, inBlock};
+
+fn one_if(x: u8, b: u8) -> u8
+    ensures { λ r. ⌜ r ≡ oneIf (eqb x b) ⌝ }
+{
+    if x == b {
+        return 1;
+    }
+    0
+}
+
+// How many of the 64 bytes from i on are `b`. It looks at every one: a loop of fixed length without a way out, which the
+// compiler turns into a few instructions on many bytes at a time.
+fn in_block(bytes: &[u8], i: usize, b: u8) -> u8
+    requires { ⌜ i + 64 ≤ length (now bytes) ⌝ }
+    ensures { λ r. ⌜ r ≡ inBlock b (now (bytes .entry)) i ⌝ }
+{
+    let mut n = 0u8;
+    for k in 0..64usize {
+        n += one_if(bytes[i + k], b);
+    }
+    n
+}
+
+// Blocks without `b` are passed over.
+fn pass_blocks(bytes: &[u8], from: usize, b: u8) -> usize
+    requires { ⌜ from ≤ length (now bytes) ⌝ }
+    ensures { λ r. ⌜ (from ≤ r) × (r ≤ length (now (bytes .entry))) × (byteFrom b (now (bytes .entry)) from ≡ byteFrom b (now (bytes .entry)) r) ⌝ }
+{
+    let mut i = from;
+    while 64 <= bytes.len() - i {
+        if 0 < in_block(bytes, i, b) {
+            return i;
+        }
+        i += 64;
+    }
+    i
+}
 
 // The place of the first byte `b` at or after `from`, or the length.
 pub fn find(bytes: &[u8], from: usize, b: u8) -> usize
     requires { ⌜ from ≤ length (now bytes) ⌝ }
     ensures { λ r. ⌜ (r ≡ byteFrom b (now (bytes .entry)) from) × (from ≤ r) × (r ≤ length (now (bytes .entry))) ⌝ }
 {
-    let mut i = from;
+    let mut i = pass_blocks(bytes, from, b);
     while i < bytes.len() {
         if bytes[i] == b {
             return i;

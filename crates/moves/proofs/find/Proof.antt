@@ -1,7 +1,6 @@
 -- `moves::find` meets its contract.
 use Prim.Native.Nat.{_-_, _≤_}
-use mathlib.Core.Path.{_≡_, refl}
-use native.Mathlib.Omega.{arith}
+use mathlib.Core.Path.{_≡_}
 use lib.ListN.{length}
 use Rattle.lists.proofs.Rules.{loops}
 use Rattle.moves.specs.Found.{byteFrom}
@@ -14,9 +13,6 @@ Inv-loop bytes from b i₀ i = (from ≤ i) × (i ≤ length bytes) × (byteFrom
 
 abbrev μ-loop : tie.MeasureT-loop
 μ-loop bytes from b i₀ i = length bytes - i
-
-loop-holds : tie.Need-loop-holds Inv-loop μ-loop
-loop-holds c = (omega arith, omega arith, refl)
 
 returns : tie.Need-returns Inv-loop μ-loop
 returns c = search loops
@@ -33,7 +29,8 @@ find-spec =
     (tie.spec
     Inv-loop
     μ-loop
-    loop-holds
+    (λ c κs. search needs)
+    (λ c. search needs)
     (λ c. search needs)
     returns
     (λ c. search needs)

@@ -1,0 +1,42 @@
+-- `moves::in_block` meets its contract.
+use Prim.Native.Nat.{_+_, _-_}
+use lib.Dec.{eqb}
+use lib.ListN.{getD}
+use Rattle.lists.proofs.Counting.{Counting, countings}
+use borrow.Author.Needs.{needs}
+use Rattle.moves.proofs.in_block.Statement.{statement}
+use Rattle.moves.proofs.in_block.Tie as tie
+
+abbrev Inv-loop : tie.InvT-loop
+Inv-loop bytes i b n₀ k₀ n k = Counting (λ j. eqb (getD bytes (i + j) 0) b) n k
+
+abbrev μ-loop : tie.MeasureT-loop
+μ-loop bytes i b n₀ k₀ n k = 64 - k
+
+loop-holds : tie.Need-loop-holds Inv-loop μ-loop
+loop-holds c = search countings
+
+add-n : tie.Need-add-n Inv-loop μ-loop
+add-n c = search countings
+
+loop-again : tie.Need-loop-again Inv-loop μ-loop
+loop-again c = search countings
+
+returns : tie.Need-returns Inv-loop μ-loop
+returns c = search countings
+
+pub in-block-spec : {M : Type 1} → statement M
+in-block-spec =
+    tie.close
+    (tie.spec
+    Inv-loop
+    μ-loop
+    loop-holds
+    (λ c. search needs)
+    (λ c. search needs)
+    (λ c κs. search needs)
+    add-n
+    (λ c. search needs)
+    (λ c. search needs)
+    loop-again
+    returns)
