@@ -1,6 +1,6 @@
 -- One turn of each loop over the bytes of a field: what the rest of the field tells is told by the next byte and the rest
 -- after it. Assumes nothing.
-use Prim.Native.Nat.{ℕ, suc, _+_, _-_, _*_, _^_, _≤_, _<_}
+use Prim.Native.Nat.{ℕ, zero, suc, _+_, _-_, _*_, _^_, _≤_, _<_}
 use mathlib.Core.Bool.{Bool, true, false, not}
 use mathlib.Core.List.{List, [], _∷_, _++_}
 use mathlib.Core.Path.{_≡_, refl, sym, ap, _∙_}
@@ -12,11 +12,12 @@ use lib.ListN.{length, drop, getD, replicate, drop-of-length-le}
 use lib.Seq.{drop-cons}
 use mir.Syntax.{w64}
 use mir.Val.{Fits}
-use borrow.Author.Tests.{le-leb, lt-leb, eq-eqb, ne-eqb}
+use borrow.Author.Tests.{le-leb, lt-leb, eq-eqb, ne-eqb, not-false}
 use Rattle.lists.specs.Choice.{both}
 use Rattle.lists.proofs.Choice.{both-yes, both-no, both-not, both-intro, not-of}
+use Rattle.lists.proofs.Counts.{uncounted}
 use Rattle.fields.specs.declared.Field.the-variants.{Is, Bad}
-use Rattle.fields.specs.Fields.{asField}
+use Rattle.fields.specs.Fields.{asField, othersInBlock}
 use Rattle.fields.proofs.Spelling.{is-field, bad-field}
 use Rattle.model.specs.Names.{digit}
 use Rattle.model.specs.Lines.{spelt, digits, decimalFrom, noBlank, packed, packedName, hexDigit, hexDigits}
@@ -35,6 +36,13 @@ module _ (one : ℕ → Bool) (all : List ℕ → Bool) (nil : all [] ≡ true) 
   all-end : (l : List ℕ) (i : ℕ) → all (drop i l) ≡ all l → length l ≤ i → true ≡ all l
   all-end l i e h = sym (sym e ∙ ap all (drop-of-length-le l {i = i} h) ∙ nil)
 
+  -- many turns at once
+  all-skip : (m : ℕ) (l : List ℕ) (i : ℕ) → all (drop i l) ≡ all l → i + m ≤ length l → ((k : ℕ) → k < m → one (getD l (i + k) 0) ≡ true) → all (drop (i + m) l) ≡ all l
+  all-skip zero l i e h y = let q : i + 0 ≡ i = omega arith in rw q e
+  all-skip (suc m) l i e h y =
+      let q : i + suc m ≡ i + m + 1 = omega arith in
+      rw q (all-on l (i + m) (all-skip m l i e (omega arith) (λ k b. y k (omega arith))) (omega arith) (y m (omega arith)))
+
 -- hexadecimal digits
 pub hex-on : (l : List ℕ) (i : ℕ) → hexDigits (drop i l) ≡ hexDigits l → i < length l → hexDigit (getD l i 0) ≡ true → hexDigits (drop (i + 1) l) ≡ hexDigits l
 unfolding hexDigits
@@ -48,7 +56,12 @@ pub hex-end : (l : List ℕ) (i : ℕ) → hexDigits (drop i l) ≡ hexDigits l 
 unfolding hexDigits
 hex-end = all-end hexDigit hexDigits refl (λ b bs. refl)
 
-pub ruleset hexes = (hex-on, hex-stop, hex-end)
+pub hex-skip : (l : List ℕ) (i r : ℕ) → hexDigits (drop i l) ≡ hexDigits l → 64 ≤ length l - i → r ≡ othersInBlock l i → r ≤ 0 → hexDigits (drop (i + 64) l) ≡ hexDigits l
+unfolding hexDigits
+hex-skip l i r e h c z =
+    all-skip hexDigit hexDigits refl (λ b bs. refl) 64 l i e (omega arith) (λ k b. not-false _ (uncounted (λ j. not (hexDigit (getD l (i + j) 0))) 64 (omega (arith, c)) k b))
+
+pub ruleset hexes = (hex-on, hex-stop, hex-end, hex-skip)
 
 -- A field f whose first i bytes are read, and are v in the base: a number of digits, or a name of bytes.
 pub record Sum (base : ℕ) (all : List ℕ → Bool) (total : ℕ → List ℕ → ℕ) (f : List ℕ) (v i : ℕ) : Type 0 where

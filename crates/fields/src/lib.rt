@@ -1,14 +1,15 @@
 // One field of a line, read where it stands: what it spells is `fieldOf` of the model. And the bytes that hexadecimal digits
 // spell, `hexBytes`.
-ghost use Prim.Native.Nat.{_-_, _/_, _^_, _≤_, _<_};
-ghost use mathlib.Core.Bool.{true};
+ghost use Prim.Native.Nat.{_+_, _-_, _/_, _^_, _≤_, _<_};
+ghost use mathlib.Core.Bool.{true, not};
 ghost use mathlib.Core.Path.{_≡_};
 ghost use lib.Dec.{leb};
-ghost use lib.ListN.{length, replicate};
+ghost use lib.ListN.{length, drop, replicate};
 ghost use Rattle.lists.specs.Bytes.{over};
 ghost use Rattle.lists.specs.Choice.{both};
+ghost use Rattle.lists.specs.Places.{oneIf};
 ghost use Rattle.model.specs.Lines.{spelt, digits, decimalFrom, numberField, noBlank, packed, packedName, nameField, rightField, hexDigit, hexValue, hexDigits, hexBytes, hexField, fieldOf};
-ghost use Rattle.fields.specs.Fields.{asField, kindOf};
+ghost use Rattle.fields.specs.Fields.{asField, kindOf, othersInBlock};
 
 // What a field spells: a number, a name as one number, a right as 0 or 1, or how many bytes of data.
 pub enum Field {
@@ -140,10 +141,45 @@ fn hex_digit(b: u8) -> bool
     false
 }
 
+fn one_if_other(b: u8) -> u8
+    ensures { λ r. ⌜ r ≡ oneIf (not (hexDigit b)) ⌝ }
+{
+    if hex_digit(b) {
+        return 0;
+    }
+    1
+}
+
+// How many of the 64 bytes from i on are no digits: as `moves` counts a byte, many at a time.
+fn others_in_block(f: &[u8], i: usize) -> u8
+    requires { ⌜ i + 64 ≤ length (now f) ⌝ }
+    ensures { λ r. ⌜ r ≡ othersInBlock (now (f .entry)) i ⌝ }
+{
+    let mut n = 0u8;
+    for k in 0..64usize {
+        n += one_if_other(f[i + k]);
+    }
+    n
+}
+
+// Blocks of digits are passed over.
+fn pass_blocks(f: &[u8]) -> usize
+    ensures { λ r. ⌜ (r ≤ length (now (f .entry))) × (hexDigits (drop r (now (f .entry))) ≡ hexDigits (now (f .entry))) ⌝ }
+{
+    let mut i: usize = 0;
+    while 64 <= f.len() - i {
+        if 0 < others_in_block(f, i) {
+            return i;
+        }
+        i += 64;
+    }
+    i
+}
+
 fn all_hex(f: &[u8]) -> bool
     ensures { λ r. ⌜ r ≡ hexDigits (now (f .entry)) ⌝ }
 {
-    let mut i: usize = 0;
+    let mut i = pass_blocks(f);
     while i < f.len() {
         if !hex_digit(f[i]) {
             return false;

@@ -1,6 +1,6 @@
 -- `fields::all_hex` meets its contract.
 use Prim.Native.Nat.{_-_, _≤_}
-use mathlib.Core.Path.{_≡_, refl}
+use mathlib.Core.Path.{_≡_}
 use native.Mathlib.Omega.{arith}
 use lib.ListN.{length, drop}
 use Rattle.lists.proofs.Rules.{calls}
@@ -15,9 +15,6 @@ Inv-loop f i₀ i = (i ≤ length f) × (hexDigits (drop i f) ≡ hexDigits f)
 
 abbrev μ-loop : tie.MeasureT-loop
 μ-loop f i₀ i = length f - i
-
-loop-holds : tie.Need-loop-holds Inv-loop μ-loop
-loop-holds c = (omega arith, refl)
 
 returns : tie.Need-returns Inv-loop μ-loop
 returns c = search (hexes, calls, arith)
@@ -34,7 +31,8 @@ all-hex-spec =
     (tie.spec
     Inv-loop
     μ-loop
-    loop-holds
+    (λ c κs. search needs)
+    (λ c. search needs)
     (λ c. search needs)
     (λ c κs. search needs)
     returns
