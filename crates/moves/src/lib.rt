@@ -7,6 +7,7 @@ ghost use Rattle.lists.specs.Bytes.{over, part};
 ghost use Rattle.lists.specs.Places.{oneIf};
 ghost use Rattle.moves.specs.Found.{byteFrom, inBlock};
 
+// A match as a number, to be added up.
 fn one_if(x: u8, b: u8) -> u8
     ensures { λ r. ⌜ r ≡ oneIf (eqb x b) ⌝ }
 {
