@@ -2,3 +2,4 @@ pub mod Lists
 pub mod Counting
 pub mod Rules
 pub mod Owning
+pub mod Rows

@@ -5,14 +5,28 @@ ghost use Rattle.lists.specs.Choice.{choose};
 ghost use Rattle.model.specs.Leaves.{callerPlace};
 ghost use Rattle.model.specs.Searches.{slotOf, slotNamed, freeSlot, dataSpaces, freeEntry};
 ghost use Rattle.lookup.specs.Owned.{ownedSpace};
+ghost use Rattle.lookup.specs.Rows.{rowOf, placeBy};
 use model::Answer;
 use model::Entry;
 use model::Guest;
 use model::Space;
 
-// The place of an enrolled guest; 8 for any other number.
-pub fn caller_place(guests: [Guest; 8], g: u32) -> usize
-    ensures { λ r. ⌜ r ≡ callerPlace guests g ⌝ }
+// The row of a guest in the tables; the first for a number that is no guest's.
+pub fn row(g: u32) -> usize
+    ensures { λ r. ⌜ (r ≡ rowOf g) × (r < 8) ⌝ }
+{
+    if g == 0 {
+        return 0;
+    }
+    if 8 < g {
+        return 0;
+    }
+    (g - 1) as usize
+}
+
+// The place of an enrolled guest, by what stands in its row; 8 for any other number.
+pub fn place_of(x: Guest, g: u32) -> usize
+    ensures { λ r. ⌜ r ≡ placeBy x g ⌝ }
 {
     if g == 0 {
         return 8;
@@ -20,11 +34,18 @@ pub fn caller_place(guests: [Guest; 8], g: u32) -> usize
     if 8 < g {
         return 8;
     }
-    let at = (g - 1) as usize;
-    if guests[at].enrolled {
-        return at;
+    if x.enrolled {
+        return (g - 1) as usize;
     }
     8
+}
+
+// The same, by the table.
+pub fn caller_place(guests: [Guest; 8], g: u32) -> usize
+    ensures { λ r. ⌜ r ≡ callerPlace guests g ⌝ }
+{
+    let x = guests[row(g)];
+    place_of(x, g)
 }
 
 // The slot of the live space with that identification.

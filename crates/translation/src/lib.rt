@@ -5,11 +5,9 @@ ghost use Rattle.translation.specs.Translated.{tokenPlace, translatedBy}
 ghost use Rattle.model.specs.Tokens.{tokenUsed};
 ghost use Rattle.model.specs.Translation.{throughStanding};
 use model::Answer;
-use model::BASE;
 use model::Cpu;
 use model::Entry;
 use model::Right;
-use model::Space;
 use model::Standing;
 use model::Translation;
 
@@ -53,15 +51,15 @@ pub fn entry_place(place: usize, token: u32) -> usize
     place * 30 + (n - 2)
 }
 
-// Host access-register translation, on what it reads: `e` is the entry that the token names, `list` the length of the
-// guest's list. An entry that stands above the list is not assigned; one that is unused, or has another sequence, neither.
-pub fn translate(spaces: [Space; 32], list: u8, e: Entry, guest: u32, token: u32) -> Translation
-    ensures { λ r. ⌜ r ≡ translatedBy spaces list e guest token ⌝ }
+// Host access-register translation, on what it reads: `home` is the slot of the guest's primary space, where the token is 0,
+// `e` the entry that the token names, `list` the length of the guest's list. An entry that stands above the list is not
+// assigned; one that is unused, or has another sequence, neither.
+pub fn translate(home: u8, list: u8, e: Entry, token: u32) -> Translation
+    ensures { λ r. ⌜ r ≡ translatedBy home list e token ⌝ }
 {
     if token == 0 {
-        let u = lookup::find_named(spaces, guest, BASE);
         return Translation::Reached {
-            slot: u as u8,
+            slot: home,
             right: Right::Write,
         };
     }

@@ -1,13 +1,10 @@
--- `translation::translate` meets its contract.
+-- `translation::translate` meets its contract. Assumes nothing.
 use Rattle.lists.proofs.Rules.{tests}
 use Rattle.translation.specs.Translated.{translatedBy}
-use Rattle.translation.proofs.Translated.{primary-small, translation}
+use Rattle.translation.proofs.Translated.{translation}
 use borrow.Author.Needs.{needs}
 use Rattle.translation.proofs.translate.Statement.{statement}
 use Rattle.translation.proofs.translate.Tie as tie
-
-cast-t8 : tie.Need-cast-t8
-cast-t8 c = search (primary-small, needs)
 
 returns : tie.Need-returns
 unfolding translatedBy
@@ -33,8 +30,6 @@ pub translate-spec : {M : Type 1} → statement M
 translate-spec =
     tie.close
     (tie.spec
-    (λ c κs. search needs)
-    cast-t8
     returns
     (λ c κs. search needs)
     returns-2

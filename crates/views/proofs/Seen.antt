@@ -1,0 +1,36 @@
+-- What has been read out of the tables, element by element, is what a call sees. Assumes nothing.
+use Prim.Native.Nat.{ℕ, _+_, _*_}
+use mathlib.Core.Bool.{true, false}
+use mathlib.Core.Path.{_≡_, refl, sym, ap, _∙_}
+use lib.ListN.{getD}
+use Rattle.lists.proofs.Choice.{no! }
+use Rattle.lookup.specs.Rows.{rowOf, placeBy}
+use Rattle.model.specs.declared.State.{State}
+use Rattle.model.specs.Tables.{noSpace, noGuest, noPermit, noCpu, unusedEntry}
+use Rattle.translation.specs.Translated.{tokenPlace}
+use Rattle.views.specs.declared.Asks.{Asks}
+use Rattle.views.specs.declared.Search.{Search}
+use Rattle.views.specs.declared.View.{View}
+use Rattle.views.specs.Asks.{tokenBy}
+use Rattle.views.specs.Search.{searchFor, foundBy, slotRow}
+use Rattle.views.specs.Views.{viewOf}
+
+pub view-read : (s : State) (a : Asks) (row t k u column place other : ℕ) (f f₀ : Search) → row ≡ rowOf (a .caller)
+    → t ≡ tokenBy (a .uses) (getD (s .cpus) row noCpu) → k ≡ tokenPlace row t → f₀ ≡ searchFor a t (getD (s .entries) k unusedEntry)
+    → foundBy f (s .spaces) ≡ foundBy f₀ (s .spaces) → f .looking ≡ false → u ≡ slotRow (f .at) → column ≡ rowOf (a .other)
+    → place ≡ placeBy (getD (s .guests) row noGuest) (a .caller) → other ≡ placeBy (getD (s .guests) column noGuest) (a .other)
+    → record {
+      place = place;
+      guest = getD (s .guests) row noGuest;
+      other = other;
+      token = t;
+      entry = getD (s .entries) k unusedEntry;
+      slot = f .at;
+      space = getD (s .spaces) u noSpace;
+      permit = getD (s .permits) (u * 8 + column) noPermit;
+    }
+    ≡ viewOf s a
+unfolding viewOf foundBy
+view-read s a row t k u column place other f f₀ r1 t1 k1 f1 same over u1 c1 p1 o1 =
+    let slot : f .at ≡ foundBy f₀ (s .spaces) = sym (no! _ _ over) ∙ same in
+    rw (p1, o1, u1, slot, f1, k1, t1, c1, r1) refl

@@ -1,0 +1,59 @@
+-- What the code has found a call, a token and an entry to be. Assumes nothing.
+use Prim.Native.Nat.{ℕ, _≤_, _<_}
+use mathlib.Core.Path.{_≡_, refl, sym, ap, _∙_}
+use borrow.Author.Tests.{le-leb, lt-leb, ne-eqb, eq-eqb}
+use Rattle.lists.proofs.Choice.{yes!, no! }
+use Rattle.model.specs.declared.Call.{Call}
+use Rattle.model.specs.declared.Cpu.{Cpu}
+use Rattle.model.specs.declared.Operation.the-variants.{Permit, Query, Remove}
+use Rattle.model.specs.declared.Right.{Right}
+use Rattle.model.specs.declared.Standing.{Standing}
+use Rattle.model.specs.Names.{baseName}
+use Rattle.model.specs.Tokens.{tokenUsed}
+use Rattle.views.specs.declared.Asks.{Asks}
+use Rattle.views.specs.declared.Search.{Search}
+use Rattle.views.specs.declared.Sought.the-variants.{Nothing, Id, Named}
+use Rattle.views.specs.declared.Uses.{Uses}
+use Rattle.views.specs.declared.Uses.the-variants.{Token, Register}
+use Rattle.views.specs.Asks.{asksBy, tokenBy}
+use Rattle.views.specs.Search.{searching, slotIn, searchThrough}
+
+module _ (k : Call) where
+  abbrev asked : Asks
+  asked = asksBy (k .caller .guest) (k .operation)
+
+  pub asks-permit : (i g : ℕ) (r : Right) → k .operation ≡ Permit i g r → record { caller = k .caller .guest; other = g; uses = Token 0; sought = Id i } ≡ asked
+  unfolding asksBy
+  asks-permit i g r e = rw e refl
+
+  pub asks-query : (o n : ℕ) → k .operation ≡ Query o n → record { caller = k .caller .guest; other = k .caller .guest; uses = Token 0; sought = Named o n } ≡ asked
+  unfolding asksBy
+  asks-query o n e = rw e refl
+
+  pub asks-remove : (t : ℕ) → k .operation ≡ Remove t → record { caller = k .caller .guest; other = k .caller .guest; uses = Token t; sought = Nothing } ≡ asked
+  unfolding asksBy
+  asks-remove t e = rw e refl
+
+-- the token
+module _ (u : Uses) (c : Cpu) where
+  pub token-own : (t : ℕ) → u ≡ Token t → t ≡ tokenBy u c
+  unfolding tokenBy
+  token-own t e = rw e refl
+
+  pub token-none : (r : ℕ) → u ≡ Register r → 15 < r → 0 ≡ tokenBy u c
+  unfolding tokenBy
+  token-none r e h = rw e (sym (no! _ _ (lt-leb r 15 h)))
+
+  pub token-loaded : (r t : ℕ) → u ≡ Register r → r ≤ 15 → t ≡ tokenUsed c r → t ≡ tokenBy u c
+  unfolding tokenBy
+  token-loaded r t e h p = rw e (p ∙ sym (yes! _ _ (le-leb r 15 h)))
+
+-- where the search through a token begins
+module _ (c t : ℕ) (x : Standing) (r : Search) where
+  pub through-primary : t ≡ 0 → r ≡ searching (Named c baseName) → r ≡ searchThrough c t x
+  unfolding searchThrough
+  through-primary e p = p ∙ sym (yes! _ _ (eq-eqb t 0 e))
+
+  pub through-entry : (y : Standing) → (t ≡ 0 → ⊥) → x ≡ y → r ≡ slotIn y → r ≡ searchThrough c t x
+  unfolding searchThrough
+  through-entry y e q p = p ∙ ap slotIn (sym q) ∙ sym (no! _ _ (ne-eqb t 0 e))

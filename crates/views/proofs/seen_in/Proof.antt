@@ -1,0 +1,81 @@
+-- `views::seen_in` meets its contract. Assumes nothing.
+use mathlib.Core.Path.{_≡_, refl}
+use mathlib.Core.Bool.{true}
+use Prim.Native.Nat.{_<_}
+use Rattle.views.specs.Search.{foundBy, leftOf}
+use Rattle.views.proofs.Seen.{view-read}
+use Rattle.views.proofs.Slots.{at-inside, went-on, went-nearer, went-inside}
+use borrow.Author.Needs.{needs}
+use Rattle.views.proofs.seen_in.Statement.{statement}
+use Rattle.views.proofs.seen_in.Tie as tie
+
+abbrev Inv-loop : tie.InvT-loop
+Inv-loop a s row guest token entry search₀ search = (foundBy search (s .spaces) ≡ foundBy search₀ (s .spaces)) × (search .looking ≡ true → search .at < 32)
+
+abbrev μ-loop : tie.MeasureT-loop
+μ-loop a s row guest token entry search₀ search = leftOf search
+
+loop-holds : tie.Need-loop-holds Inv-loop μ-loop
+loop-holds c = (refl, search needs)
+
+element-copy-out-x : tie.Need-element-copy-out-x Inv-loop μ-loop
+element-copy-out-x c = search at-inside
+
+advance-requires : tie.Need-advance-requires Inv-loop μ-loop
+advance-requires c κs = (search needs, search at-inside)
+
+loop-less : tie.Need-loop-less Inv-loop μ-loop
+loop-less c = search went-nearer
+
+loop-again : tie.Need-loop-again Inv-loop μ-loop
+loop-again c = (search went-on, search went-inside)
+
+returns : tie.Need-returns Inv-loop μ-loop
+returns c =
+    view-read _ _ _ _ _ _ _ _ _ _ _
+    (c .before .before .before .before .before .before .before .before .before .before .before .before .before .before .before .row .ensures .0)
+    (c .before .before .before .before .before .before .before .before .before .before .before .before .token-seen .ensures)
+    (c .before .before .before .before .before .before .before .before .before .before .before .entry-place .ensures .0)
+    (c .before .before .before .before .before .before .before .before .before .search-for .ensures .0)
+    (c .before .before .before .before .before .before .before .before .loop .inv .0)
+    (c .before .before .before .before .before .before .before .loop-test .left)
+    (c .before .before .before .before .before .before .slot-row .ensures .0)
+    (c .before .before .before .before .row2 .ensures .0)
+    (c .before .place-of .ensures)
+    (c .place-of2 .ensures)
+
+pub seen-in-spec : {M : Type 1} → statement M
+seen-in-spec =
+    tie.close
+    (tie.spec
+    Inv-loop
+    μ-loop
+    (λ c κs. search needs)
+    (λ c. search needs)
+    (λ c. search needs)
+    (λ c. search needs)
+    (λ c. search needs)
+    (λ c κs. search needs)
+    (λ c κs. search needs)
+    (λ c. search needs)
+    (λ c. search needs)
+    (λ c κs. search needs)
+    loop-holds
+    (λ c. search needs)
+    (λ c. search needs)
+    element-copy-out-x
+    advance-requires
+    loop-less
+    loop-again
+    (λ c κs. search needs)
+    (λ c. search needs)
+    (λ c. search needs)
+    (λ c κs. search needs)
+    (λ c. search needs)
+    (λ c. search needs)
+    (λ c. search needs)
+    (λ c. search needs)
+    (λ c. search needs)
+    (λ c κs. search needs)
+    (λ c κs. search needs)
+    returns)

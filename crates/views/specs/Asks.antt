@@ -1,0 +1,47 @@
+-- What a call asks to see, and the token that it uses.
+use Prim.Native.Nat.{ℕ}
+use lib.Dec.{leb}
+use Rattle.lists.specs.Choice.{choose}
+use Rattle.model.specs.declared.Cpu.{Cpu}
+use Rattle.model.specs.declared.Operation.{Operation}
+use Rattle.model.specs.declared.Operation.the-variants.{Enrol, Create, Destroy, Permit, Isolate, Query, Add, Remove, Load, Mode, Fetch, Store, Reset}
+use Rattle.model.specs.declared.Request.{Request}
+use Rattle.model.specs.declared.Request.the-variants.{Frames, Call, NotRead}
+use Rattle.model.specs.Tokens.{tokenUsed}
+use Rattle.views.specs.declared.Asks.{Asks}
+use Rattle.views.specs.declared.Sought.{Sought}
+use Rattle.views.specs.declared.Sought.the-variants.{Nothing, Id, Named}
+use Rattle.views.specs.declared.Uses.{Uses}
+use Rattle.views.specs.declared.Uses.the-variants.{Token, Register}
+
+abbrev asking : (caller other : ℕ) → Uses → Sought → Asks
+asking c o u x = record { caller = c; other = o; uses = u; sought = x }
+
+-- its caller alone
+abbrev pub plainly : (caller : ℕ) → Asks
+plainly c = asking c c (Token 0) Nothing
+
+unfoldable pub asksBy : (caller : ℕ) → Operation → Asks
+asksBy c (Enrol x) = plainly c
+asksBy c (Create name pages) = plainly c
+asksBy c (Destroy id) = plainly c
+asksBy c (Permit id guest right) = asking c guest (Token 0) (Id id)
+asksBy c (Isolate id) = plainly c
+asksBy c (Query owner name) = asking c c (Token 0) (Named owner name)
+asksBy c (Add id right) = plainly c
+asksBy c (Remove token) = asking c c (Token token) Nothing
+asksBy c (Load register value) = plainly c
+asksBy c (Mode mode) = plainly c
+asksBy c (Fetch register address) = asking c c (Register register) Nothing
+asksBy c (Store register address) = asking c c (Register register) Nothing
+asksBy c Reset = plainly c
+
+unfoldable pub asksFor : Request → Asks
+asksFor (Frames f) = plainly 0
+asksFor (Call k n) = asksBy (k .caller .guest) (k .operation)
+asksFor NotRead = plainly 0
+
+-- the token, by the caller's CPU; a register that no CPU has holds none
+unfoldable pub tokenBy : Uses → Cpu → ℕ
+tokenBy (Token t) c = t
+tokenBy (Register r) c = choose (leb r 15) (tokenUsed c r) 0

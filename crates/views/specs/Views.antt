@@ -1,0 +1,39 @@
+-- What a call sees of the tables.
+use Prim.Native.Nat.{ℕ, _+_, _*_}
+use lib.ListN.{getD}
+use Rattle.lookup.specs.Rows.{rowOf, placeBy}
+use Rattle.model.specs.declared.Cpu.{Cpu}
+use Rattle.model.specs.declared.Entry.{Entry}
+use Rattle.model.specs.declared.Guest.{Guest}
+use Rattle.model.specs.declared.State.{State}
+use Rattle.model.specs.Tables.{noGuest, noPermit, unusedEntry, spaceAt, cpuAt}
+use Rattle.translation.specs.Translated.{tokenPlace}
+use Rattle.views.specs.declared.Asks.{Asks}
+use Rattle.views.specs.declared.View.{View}
+use Rattle.views.specs.Asks.{tokenBy}
+use Rattle.views.specs.Search.{searchFor, foundBy, slotRow}
+
+abbrev pub rowAt : State → (guest : ℕ) → Guest
+rowAt s g = getD (s .guests) (rowOf g) noGuest
+
+-- the token, its entry, and the slot of the space, in this order
+abbrev pub tokenSeen : State → Asks → ℕ
+tokenSeen s a = tokenBy (a .uses) (cpuAt (s .cpus) (rowOf (a .caller)))
+
+abbrev pub entrySeen : State → Asks → Entry
+entrySeen s a = getD (s .entries) (tokenPlace (rowOf (a .caller)) (tokenSeen s a)) unusedEntry
+
+abbrev pub slotSeen : State → Asks → ℕ
+slotSeen s a = foundBy (searchFor a (tokenSeen s a) (entrySeen s a)) (s .spaces)
+
+unfoldable pub viewOf : State → Asks → View
+viewOf s a = record {
+  place = placeBy (rowAt s (a .caller)) (a .caller);
+  guest = rowAt s (a .caller);
+  other = placeBy (rowAt s (a .other)) (a .other);
+  token = tokenSeen s a;
+  entry = entrySeen s a;
+  slot = slotSeen s a;
+  space = spaceAt (s .spaces) (slotRow (slotSeen s a));
+  permit = getD (s .permits) (slotRow (slotSeen s a) * 8 + rowOf (a .other)) noPermit;
+}

@@ -1,0 +1,299 @@
+// What a call looks at in the tables: a few elements. Whoever owns the tables reads them out and hands them to the call, so
+// that no table is moved to it. Which elements they are is `viewOf` of the specs.
+ghost use Prim.Native.Nat.{_≤_, _<_};
+ghost use mathlib.Core.Bool.{true, false};
+ghost use mathlib.Core.Path.{_≡_};
+ghost use Rattle.views.specs.declared.Sought.the-variants.{Nothing};
+ghost use Rattle.views.specs.declared.Uses.the-variants.{Register};
+ghost use Rattle.views.specs.Asks.{asksBy, asksFor, plainly, tokenBy};
+ghost use Rattle.views.specs.Search.{soughtBy, searchBy, searchThrough, searchFor, Advanced, slotRow};
+ghost use Rattle.views.specs.Views.{viewOf};
+use model::BASE;
+use model::Call;
+use model::Cpu;
+use model::Entry;
+use model::Guest;
+use model::Operation;
+use model::Permit;
+use model::Request;
+use model::Space;
+use model::Standing;
+use model::State;
+
+// The token that a call uses: an argument of its own, or what a register of the caller's holds.
+pub enum Uses {
+    Token { token: u32 },
+    Register { register: u32 },
+}
+
+// The space that a call names.
+pub enum Sought {
+    Nothing,
+    Id { id: u32 },
+    Named { owner: u32, name: u64 },
+}
+
+// What a call asks to see. `other` is the guest whose permit it looks at.
+pub struct Asks {
+    pub caller: u32,
+    pub other: u32,
+    pub uses: Uses,
+    pub sought: Sought,
+}
+
+// A search through the slots. While it is looking it comes to slot `at` next; then `at` is what it found, 32 for nothing.
+pub struct Search {
+    pub sought: Sought,
+    pub at: u8,
+    pub looking: bool,
+}
+
+// What it sees: the places of the caller and of the other guest, 8 for one that is not enrolled; what stands in the caller's
+// row; the token, and the entry that it names; the slot of the space, what stands there, and the other guest's permit for it.
+pub struct View {
+    pub place: usize,
+    pub guest: Guest,
+    pub other: usize,
+    pub token: u32,
+    pub entry: Entry,
+    pub slot: u8,
+    pub space: Space,
+    pub permit: Permit,
+}
+
+// A call that asks for its caller alone.
+fn plain(caller: u32) -> Asks
+    ensures { λ r. ⌜ r ≡ plainly caller ⌝ }
+{
+    Asks {
+        caller: caller,
+        other: caller,
+        uses: Uses::Token { token: 0 },
+        sought: Sought::Nothing,
+    }
+}
+
+// FETCH and STORE.
+fn through(caller: u32, register: u32) -> Asks
+    ensures { λ r. ⌜ r ≡ record { caller = caller; other = caller; uses = Register register; sought = Nothing } ⌝ }
+{
+    Asks {
+        caller: caller,
+        other: caller,
+        uses: Uses::Register { register: register },
+        sought: Sought::Nothing,
+    }
+}
+
+pub fn asked_by(call: Call) -> Asks
+    ensures { λ r. ⌜ r ≡ asksBy (call .caller .guest) (call .operation) ⌝ }
+{
+    let caller = call.caller;
+    let g = caller.guest;
+    let operation = call.operation;
+    match operation {
+        Operation::Enrol { settings: _ } => plain(g),
+        Operation::Create { name: _, pages: _ } => plain(g),
+        Operation::Destroy { id: _ } => plain(g),
+        Operation::Permit {
+            id,
+            guest,
+            right: _,
+        } => Asks {
+            caller: g,
+            other: guest,
+            uses: Uses::Token { token: 0 },
+            sought: Sought::Id { id: id },
+        },
+        Operation::Isolate { id: _ } => plain(g),
+        Operation::Query { owner, name } => Asks {
+            caller: g,
+            other: g,
+            uses: Uses::Token { token: 0 },
+            sought: Sought::Named {
+                owner: owner,
+                name: name,
+            },
+        },
+        Operation::Add { id: _, right: _ } => plain(g),
+        Operation::Remove { token } => Asks {
+            caller: g,
+            other: g,
+            uses: Uses::Token { token: token },
+            sought: Sought::Nothing,
+        },
+        Operation::Load {
+            register: _,
+            value: _,
+        } => plain(g),
+        Operation::Mode { mode: _ } => plain(g),
+        Operation::Fetch {
+            register,
+            address: _,
+        } => through(g, register),
+        Operation::Store {
+            register,
+            address: _,
+        } => through(g, register),
+        Operation::Reset => plain(g),
+    }
+}
+
+// A line that is no call asks for nothing that matters.
+pub fn asked(request: Request) -> Asks
+    ensures { λ r. ⌜ r ≡ asksFor request ⌝ }
+{
+    match request {
+        Request::Frames { .. } => plain(0),
+        Request::Call { call, .. } => asked_by(call),
+        Request::NotRead => plain(0),
+    }
+}
+
+// The token, by the caller's CPU.
+pub fn token_seen(a: Asks, c: Cpu) -> u32
+    ensures { λ r. ⌜ r ≡ tokenBy (a .uses) c ⌝ }
+{
+    let uses = a.uses;
+    match uses {
+        Uses::Token { token } => token,
+        Uses::Register { register } => {
+            if 15 < register {
+                return 0;
+            }
+            translation::token_used(c, register)
+        }
+    }
+}
+
+fn settled(slot: u8) -> Search
+    ensures { λ r. ⌜ r ≡ record { sought = Nothing; at = slot; looking = false } ⌝ }
+{
+    Search {
+        sought: Sought::Nothing,
+        at: slot,
+        looking: false,
+    }
+}
+
+fn searching(sought: Sought) -> Search
+    ensures { λ r. ⌜ r ≡ record { sought = sought; at = 0; looking = true } ⌝ }
+{
+    Search {
+        sought: sought,
+        at: 0,
+        looking: true,
+    }
+}
+
+// Through a token: the caller's primary space for token 0, else the space of the entry.
+fn search_through(caller: u32, token: u32, e: Entry) -> Search
+    ensures { λ r. ⌜ r ≡ searchThrough caller token (e .standing) ⌝ }
+{
+    if token == 0 {
+        return searching(Sought::Named {
+            owner: caller,
+            name: BASE,
+        });
+    }
+    let standing = e.standing;
+    match standing {
+        Standing::Unused => settled(32),
+        Standing::Valid { slot, right: _ } => settled(slot),
+        Standing::Revoked => settled(32),
+    }
+}
+
+fn search_by(sought: Sought) -> Search
+    ensures { λ r. ⌜ r ≡ searchBy sought ⌝ }
+{
+    match sought {
+        Sought::Nothing => settled(32),
+        Sought::Id { .. } => searching(sought),
+        Sought::Named { .. } => searching(sought),
+    }
+}
+
+// Where the search for the space begins.
+pub fn search_for(a: Asks, token: u32, e: Entry) -> Search
+    ensures { λ r. ⌜ (r ≡ searchFor a token e) × (r .looking ≡ true → r .at < 32) ⌝ }
+{
+    let uses = a.uses;
+    let sought = a.sought;
+    match uses {
+        Uses::Token { .. } => search_by(sought),
+        Uses::Register { .. } => search_through(a.caller, token, e),
+    }
+}
+
+fn is_sought(x: Space, sought: Sought) -> bool
+    ensures { λ r. ⌜ r ≡ soughtBy sought x ⌝ }
+{
+    match sought {
+        Sought::Nothing => false,
+        Sought::Id { id } => slots::is_space(x, id),
+        Sought::Named { owner, name } => slots::is_named(x, owner, name),
+    }
+}
+
+// One slot more, by what stands there.
+pub fn advance(f: Search, x: Space) -> Search
+    requires { ⌜ (f .looking ≡ true) × (f .at < 32) ⌝ }
+    ensures { λ r. ⌜ Advanced f x r ⌝ }
+{
+    let sought = f.sought;
+    if is_sought(x, sought) {
+        return Search {
+            sought: sought,
+            at: f.at,
+            looking: false,
+        };
+    }
+    Search {
+        sought: sought,
+        at: f.at + 1,
+        looking: f.at < 31,
+    }
+}
+
+// Where a slot stands in its table; the first where there is none.
+pub fn slot_row(slot: u8) -> usize
+    ensures { λ r. ⌜ (r ≡ slotRow slot) × (r < 32) ⌝ }
+{
+    if slot < 32 {
+        return slot as usize;
+    }
+    0
+}
+
+// What a call sees of a state that is handed over.
+pub fn seen_in(s: State, a: Asks) -> View
+    ensures { λ r. ⌜ r ≡ viewOf s a ⌝ }
+{
+    let row = lookup::row(a.caller);
+    let guest = s.guests[row];
+    let cpu = s.cpus[row];
+    let token = token_seen(a, cpu);
+    let entry = s.entries[translation::entry_place(row, token)];
+    let mut search = search_for(a, token, entry);
+    while search.looking {
+        let at = search.at as usize;
+        let x = s.spaces[at];
+        search = advance(search, x);
+    }
+    let u = slot_row(search.at);
+    let space = s.spaces[u];
+    let column = lookup::row(a.other);
+    let other = s.guests[column];
+    let permit = s.permits[u * 8 + column];
+    View {
+        place: lookup::place_of(guest, a.caller),
+        guest: guest,
+        other: lookup::place_of(other, a.other),
+        token: token,
+        entry: entry,
+        slot: search.at,
+        space: space,
+        permit: permit,
+    }
+}
