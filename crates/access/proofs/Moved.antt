@@ -1,21 +1,23 @@
 -- What the code of FETCH and STORE answers and moves is what the model says. Assumes nothing.
-use Prim.Native.Nat.{ℕ, _+_}
-use mathlib.Core.Bool.{Bool, true, false}
+use Prim.Native.Nat.{ℕ, _+_, _≤_, _<_}
+use mathlib.Core.Bool.{Bool, true, false, not}
 use mathlib.Core.List.{List}
 use mathlib.Core.Path.{_≡_, refl, sym, ap, _∙_}
 use native.Mathlib.Omega.{arith}
 use lib.Dec.{leb}
 use lib.ListN.{length}
-use borrow.Author.Tests.{le-leb}
+use borrow.Author.Tests.{le-leb, lt-leb}
 use Rattle.lists.specs.Bytes.{over, part, put, get}
 use Rattle.lists.specs.Choice.{choose, implies}
 use Rattle.lists.proofs.Bytes.{put-run, get-run}
 use Rattle.lists.proofs.Choice.{choose-eq}
+use Rattle.lists.proofs.Rules.{test-no, test-yes}
 use Rattle.model.specs.declared.Answer.{Answer}
-use Rattle.model.specs.declared.Answer.the-variants.{Addressing, Protection}
+use Rattle.model.specs.declared.Answer.the-variants.{BadCaller, Limit, Addressing, Protection}
 use Rattle.model.specs.declared.Call.{Call}
 use Rattle.model.specs.declared.Caller.{Caller}
 use Rattle.model.specs.declared.Change.the-variants.{Keep}
+use Rattle.model.specs.declared.Kind.the-variants.{Register, Length}
 use Rattle.model.specs.declared.Operation.the-variants.{Fetch, Store}
 use Rattle.model.specs.declared.Right.{Right}
 use Rattle.model.specs.declared.Space.{Space}
@@ -29,12 +31,20 @@ use Rattle.model.specs.Frames.{layout, frameOf, placeOf}
 use Rattle.model.specs.Leaves.{scratchJudged, bufferJudged}
 use Rattle.model.specs.Replies.{callOf}
 use Rattle.model.specs.Searches.{enrolled}
+use Rattle.model.specs.SoundTest.{sound}
 use Rattle.model.specs.Step.{scratchAfter, bufferAfter}
 use Rattle.model.specs.Tables.{spaceAt}
 use Rattle.model.proofs.Rules.{check-yes, check-no}
 use Rattle.transfer.specs.Transferred.{RunIn, inside, placeIn, fetchAnswer, fetched, storeAnswer, stored}
 use Rattle.transfer.proofs.Lending.{ends}
-use Rattle.access.proofs.Reach.{Aimed}
+use Rattle.translation.specs.Translated.{translatedBy}
+use Rattle.views.specs.declared.Asks.{Asks}
+use Rattle.views.specs.declared.View.{View}
+use Rattle.views.specs.Asks.{asksBy}
+use Rattle.views.specs.Views.{viewOf}
+use Rattle.views.proofs.Judged.{judged-bad, judged-good}
+use Rattle.access.specs.Access.{Fetches, Stores}
+use Rattle.access.proofs.Reach.{Aimed, aimed, reached-space}
 
 abbrev space : State → (slot : ℕ) → Space
 space s u = spaceAt (s .spaces) u
@@ -52,22 +62,13 @@ unfolding check choose
 read-check F true a d = refl
 read-check F false a d = refl
 
--- for search: a chain of checks up to the one that refuses
-pub go : (t : Bool) (a : Answer) (d x : Decision) → t ≡ true → d ≡ x → check t a d ≡ x
-go t a d x e p = check-yes a d e ∙ p
-
-pub stop : (t : Bool) (a : Answer) (d : Decision) → t ≡ false → check t a d ≡ refuse a
-stop t a d e = check-no a d e
-
-pub ruleset stops = (go, stop)
-
 -- a refusal moves nothing
 module _ (s : State) (k : Call) (m b : List ℕ) (y : Answer) (e : judge s k (length b) ≡ refuse y) where
-  pub fetch-refused : (y ≡ judge s k (length b) .answer) × (b ≡ bufferJudged s k m b)
+  fetch-refused : (y ≡ judge s k (length b) .answer) × (b ≡ bufferJudged s k m b)
   unfolding bufferJudged bufferAfter
   fetch-refused = (ap (λ d. d .answer) (sym e), ap (bufferOf s m b) (sym e))
 
-  pub store-refused : (y ≡ judge s k (length b) .answer) × (m ≡ scratchJudged s k m b)
+  store-refused : (y ≡ judge s k (length b) .answer) × (m ≡ scratchJudged s k m b)
   unfolding scratchJudged scratchAfter
   store-refused = (ap (λ d. d .answer) (sym e), ap (scratchOf s m b) (sym e))
 
@@ -100,10 +101,10 @@ module _ (s : State) (c : Caller) (r a n : ℕ) (x : Translation) (h : Aimed s (
   unfolding judge goodCaller enrols choose arguments checkAll perform storing target
   judge-store = passed _ _ _ _ ∙ ap (access s a n true (λ u. store u a)) (sym (h .is))
 
-  pub fetch-stops : (y : Answer) → x ≡ Refused y → judge s (callOf c (Fetch r a)) n ≡ refuse y
+  fetch-stops : (y : Answer) → x ≡ Refused y → judge s (callOf c (Fetch r a)) n ≡ refuse y
   fetch-stops = stops-at s (callOf c (Fetch r a)) a n false (λ u. fetch u a) x judge-fetch
 
-  pub store-stops : (y : Answer) → x ≡ Refused y → judge s (callOf c (Store r a)) n ≡ refuse y
+  store-stops : (y : Answer) → x ≡ Refused y → judge s (callOf c (Store r a)) n ≡ refuse y
   store-stops = stops-at s (callOf c (Store r a)) a n true (λ u. store u a) x judge-store
 
   module _ (u : ℕ) (q : Right) (e : x ≡ Reached u q) where
@@ -116,11 +117,11 @@ module _ (s : State) (c : Caller) (r a n : ℕ) (x : Translation) (h : Aimed s (
     unfolding implies
     store-read F = read-at s (callOf c (Store r a)) a n true (λ u. store u a) x judge-store F u q e
 
-    pub fetch-says : (v : Answer) → v ≡ fetchAnswer (space s u) a n → v ≡ judge s (callOf c (Fetch r a)) n .answer
+    fetch-says : (v : Answer) → v ≡ fetchAnswer (space s u) a n → v ≡ judge s (callOf c (Fetch r a)) n .answer
     unfolding fetchAnswer
     fetch-says v p = p ∙ sym (fetch-read (λ d. d .answer))
 
-    pub store-says : (v : Answer) → v ≡ storeAnswer (space s u) q a n → v ≡ judge s (callOf c (Store r a)) n .answer
+    store-says : (v : Answer) → v ≡ storeAnswer (space s u) q a n → v ≡ judge s (callOf c (Store r a)) n .answer
     unfolding storeAnswer
     store-says v p = p ∙ sym (store-read (λ d. d .answer))
 
@@ -139,7 +140,7 @@ module _ (s : State) (u a : ℕ) (m b : List ℕ) (run : RunIn (space s u) m) (t
 -- all checks passed, up to 17 and 18, which the last function makes
 module _ (s : State) (c : Caller) (r a : ℕ) (m b : List ℕ) (x : Translation) (u : ℕ) (q : Right) (run : RunIn (space s u) m)
     (h : Aimed s (c .guest) r x) (l : goodLength (length b) ≡ true) (e : x ≡ Reached u q) where
-  pub fetch-fills : (z : List ℕ) → z ≡ fetched (space s u) a m b → z ≡ bufferJudged s (callOf c (Fetch r a)) m b
+  fetch-fills : (z : List ℕ) → z ≡ fetched (space s u) a m b → z ≡ bufferJudged s (callOf c (Fetch r a)) m b
   unfolding fetched bufferJudged bufferAfter
   fetch-fills z p =
       p
@@ -147,10 +148,84 @@ module _ (s : State) (c : Caller) (r a : ℕ) (m b : List ℕ) (x : Translation)
       (fetch-read s c r a (length b) x h l u q e (bufferOf s m b)
       ∙ choose-eq (inside (space s u) a (length b)) (run-read s u a m b run) (λ _. refl))
 
-  pub store-puts : (z : List ℕ) → z ≡ stored (space s u) q a m b → z ≡ scratchJudged s (callOf c (Store r a)) m b
+  store-puts : (z : List ℕ) → z ≡ stored (space s u) q a m b → z ≡ scratchJudged s (callOf c (Store r a)) m b
   unfolding stored scratchJudged scratchAfter
   store-puts z p =
       p
       ∙ sym
       (store-read s c r a (length b) x h l u q e (scratchOf s m b)
       ∙ choose-eq (inside (space s u) a (length b)) (λ t. choose-eq (writes q) (λ _. run-written s u a m b run t) (λ _. refl)) (λ _. refl))
+
+-- For search: what the code has come to on what it has seen.
+module _ (v : View) (r a : ℕ) (m b : List ℕ) where
+  pub fetch-bad : 8 ≤ v .place → Fetches v r a m b BadCaller b
+  unfolding enrols
+  fetch-bad h = record { is = λ s c ok e. fetch-refused s (callOf c (Fetch r a)) m b _ (judged-bad s c (Fetch r a) (length b) v refl e h) }
+
+  pub store-bad : 8 ≤ v .place → Stores v r a m b BadCaller m
+  unfolding enrols
+  store-bad h = record { is = λ s c ok e. store-refused s (callOf c (Store r a)) m b _ (judged-bad s c (Store r a) (length b) v refl e h) }
+
+  module _ (l : v .place < 8) where
+    pub fetch-register : 15 < r → Fetches v r a m b (Limit Register 2) b
+    unfolding enrols arguments checkAll
+    fetch-register h = record { is = λ s c ok e. fetch-refused s (callOf c (Fetch r a)) m b _ (judged-good s c (Fetch r a) (length b) v refl e l ∙ check-no _ _ (lt-leb r 15 h)) }
+
+    pub store-register : 15 < r → Stores v r a m b (Limit Register 2) m
+    unfolding enrols arguments checkAll
+    store-register h = record { is = λ s c ok e. store-refused s (callOf c (Store r a)) m b _ (judged-good s c (Store r a) (length b) v refl e l ∙ check-no _ _ (lt-leb r 15 h)) }
+
+    module _ (k : r ≤ 15) (y : Bool) (t : y ≡ goodLength (length b)) where
+      pub fetch-length : not y ≡ true → Fetches v r a m b (Limit Length 4) b
+      unfolding enrols arguments checkAll
+      fetch-length n = record { is = λ s c ok e. fetch-refused s (callOf c (Fetch r a)) m b _ (judged-good s c (Fetch r a) (length b) v refl e l ∙ check-yes _ _ (le-leb r 15 k) ∙ check-no _ _ (test-no y _ t n)) }
+
+      pub store-length : not y ≡ true → Stores v r a m b (Limit Length 4) m
+      unfolding enrols arguments checkAll
+      store-length n = record { is = λ s c ok e. store-refused s (callOf c (Store r a)) m b _ (judged-good s c (Store r a) (length b) v refl e l ∙ check-yes _ _ (le-leb r 15 k) ∙ check-no _ _ (test-no y _ t n)) }
+
+      module _ (n : not y ≡ false) (x : Translation) (p : x ≡ translatedBy (v .slot) (v .guest .list) (v .entry) (v .token)) where
+        good : goodLength (length b) ≡ true
+        good = test-yes y _ t n
+
+        fetch-aimed : (s : State) (c : Caller) → v ≡ viewOf s (asksBy (c .guest) (Fetch r a)) → Aimed s (c .guest) r x
+        unfolding asksBy
+        fetch-aimed s c e = aimed s (c .guest) r (Fetch r a) v refl e l k x p
+
+        store-aimed : (s : State) (c : Caller) → v ≡ viewOf s (asksBy (c .guest) (Store r a)) → Aimed s (c .guest) r x
+        unfolding asksBy
+        store-aimed s c e = aimed s (c .guest) r (Store r a) v refl e l k x p
+
+        pub fetch-untranslated : (z : Answer) → x ≡ Refused z → Fetches v r a m b z b
+        fetch-untranslated z f = record { is = λ s c ok e. fetch-refused s (callOf c (Fetch r a)) m b z (fetch-stops s c r a (length b) x (fetch-aimed s c e) good z f) }
+
+        pub store-untranslated : (z : Answer) → x ≡ Refused z → Stores v r a m b z m
+        store-untranslated z f = record { is = λ s c ok e. store-refused s (callOf c (Store r a)) m b z (store-stops s c r a (length b) x (store-aimed s c e) good z f) }
+
+        module _ (u : ℕ) (q : Right) (f : x ≡ Reached u q) (run : RunIn (v .space) m) (z : Answer) (w : List ℕ) where
+          pub fetch-reached : z ≡ fetchAnswer (v .space) a (length b) → w ≡ fetched (v .space) a m b → Fetches v r a m b z w
+          unfolding asksBy
+          fetch-reached i j = record {
+            is = λ s c ok e.
+                let here = reached-space s (c .guest) r (Fetch r a) v refl e l k x p ok u q f in
+                ( fetch-says s c r a (length b) x (fetch-aimed s c e) good u q f z (rw here at i)
+                , fetch-fills s c r a m b x u q (rw here at run) (fetch-aimed s c e) good f w (rw here at j) );
+          }
+
+          pub store-reached : z ≡ storeAnswer (v .space) q a (length b) → w ≡ stored (v .space) q a m b → Stores v r a m b z w
+          unfolding asksBy
+          store-reached i j = record {
+            is = λ s c ok e.
+                let here = reached-space s (c .guest) r (Store r a) v refl e l k x p ok u q f in
+                ( store-says s c r a (length b) x (store-aimed s c e) good u q f z (rw here at i)
+                , store-puts s c r a m b x u q (rw here at run) (store-aimed s c e) good f w (rw here at j) );
+          }
+
+-- a state that was handed over
+pub fetch-seen-in : (s : State) (c : Caller) (r a : ℕ) (m b : List ℕ) (k : Asks) (v : View) (x : Answer) (b' : List ℕ) → sound s ≡ true → k ≡ asksBy (c .guest) (Fetch r a) → v ≡ viewOf s k
+    → Fetches v r a m b x b' → (x ≡ judge s (callOf c (Fetch r a)) (length b) .answer) × (b' ≡ bufferJudged s (callOf c (Fetch r a)) m b)
+fetch-seen-in s c r a m b k v x b' ok e f h = h .is s c ok (f ∙ ap (viewOf s) e)
+
+pub store-seen-in : (s : State) (c : Caller) (r a : ℕ) (m b : List ℕ) (k : Asks) (v : View) (x : Answer) (m' : List ℕ) → sound s ≡ true → k ≡ asksBy (c .guest) (Store r a) → v ≡ viewOf s k
+    → Stores v r a m b x m' → (x ≡ judge s (callOf c (Store r a)) (length b) .answer) × (m' ≡ scratchJudged s (callOf c (Store r a)) m b)
+store-seen-in s c r a m b k v x m' ok e f h = h .is s c ok (f ∙ ap (viewOf s) e)

@@ -1,34 +1,52 @@
--- From what the code of FETCH and STORE has read to what the model judges. Assumes nothing.
+-- From what FETCH and STORE have seen to what the model judges. Assumes nothing.
 use Prim.Native.Nat.{ℕ, _-_, _*_, _≤_, _<_}
 use mathlib.Core.Bool.{Bool, true, false, not}
 use mathlib.Core.List.{List}
-use mathlib.Core.Path.{_≡_, sym, ap, _∙_}
+use mathlib.Core.Logic.{⊎-elim, _≢_}
+use mathlib.Core.Path.{_≡_, refl, sym, ap, ap₂, _∙_}
+use native.Mathlib.Decide.{decLe}
 use native.Mathlib.Omega.{arith}
 use lib.Dec.{leb}
 use lib.ListN.{length, getD}
-use borrow.Author.Tests.{leb-true}
-use Rattle.lists.proofs.Choice.{both-right}
+use borrow.Author.Tests.{leb-true, le-leb, lt-ltb, eq-eqb, ne-eqb}
+use Rattle.lists.specs.Choice.{choose}
+use Rattle.lists.specs.Places.{lowest}
+use Rattle.lists.proofs.Choice.{yes!, no!, both-right}
 use Rattle.lists.proofs.Rules.{test-yes}
-use Rattle.model.specs.declared.State.{State}
+use Rattle.model.specs.declared.Cpu.{Cpu}
+use Rattle.model.specs.declared.Entry.{Entry}
+use Rattle.model.specs.declared.Guest.{Guest}
+use Rattle.model.specs.declared.Operation.{Operation}
 use Rattle.model.specs.declared.Right.{Right}
+use Rattle.model.specs.declared.Space.{Space}
+use Rattle.model.specs.declared.Standing.the-variants.{Valid}
+use Rattle.model.specs.declared.State.{State}
 use Rattle.model.specs.declared.Translation.{Translation}
 use Rattle.model.specs.declared.Translation.the-variants.{Reached}
 use Rattle.model.specs.Arguments.{goodLength}
 use Rattle.model.specs.Frames.{frameOf}
-use Rattle.model.specs.Leaves.{callerPlace}
-use Rattle.model.specs.Searches.{enrolled}
+use Rattle.model.specs.Searches.{enrolled, slotNamed, primarySlot}
 use Rattle.model.specs.Sound.{Live, Sound}
 use Rattle.model.specs.SoundTest.{sound}
-use Rattle.model.specs.Tables.{noSpace, spaceAt, noGuest, guestPlace, cpuAt, unusedEntry}
-use Rattle.model.specs.Tokens.{tokenUsed}
+use Rattle.model.specs.Tables.{noSpace, spaceAt, guestPlace, guestAt, cpuAt, entryAt, unusedEntry}
+use Rattle.model.specs.Through.{ThroughPrimary, ThroughEntry}
+use Rattle.model.specs.Tokens.{tokenUsed, entryNumber}
 use Rattle.model.specs.Translation.{translate}
-use Rattle.model.proofs.Reached.{reached-live}
-use Rattle.model.proofs.Rules.{place-yes, place-is}
+use Rattle.model.proofs.Reached.{reached, reached-live}
 use Rattle.model.proofs.Searches.{live-slot}
 use Rattle.model.proofs.SoundTest.{sound-decides}
+use Rattle.lookup.specs.Rows.{rowOf}
 use Rattle.transfer.specs.Transferred.{RunIn}
 use Rattle.translation.specs.Translated.{tokenPlace, translatedBy}
-use Rattle.translation.proofs.Translated.{translated-is}
+use Rattle.translation.proofs.Translated.{translated-is, named-place}
+use Rattle.views.specs.declared.Asks.{Asks}
+use Rattle.views.specs.declared.Sought.the-variants.{Nothing}
+use Rattle.views.specs.declared.Uses.the-variants.{Register}
+use Rattle.views.specs.declared.View.{View}
+use Rattle.views.specs.Asks.{asksBy, tokenBy}
+use Rattle.views.specs.Search.{soughtBy, searchUsing, searchThrough, slotIn, foundBy, slotRow}
+use Rattle.views.specs.Views.{viewOf}
+use Rattle.views.proofs.Judged.{seen-enrolled, row-own, seen-guest}
 
 -- guest g has passed check 2 and the register check 3, and the translation for it through register r is x
 pub record Aimed (s : State) (g r : ℕ) (x : Translation) : Type 0 where
@@ -36,39 +54,102 @@ pub record Aimed (s : State) (g r : ℕ) (x : Translation) : Type 0 where
   pub register : r ≤ 15
   pub is : x ≡ translate s g (tokenUsed (cpuAt (s .cpus) (guestPlace g)) r)
 
--- the code's steps from the caller to the translation: the caller's place, the token used, the entry that it names
-module _ (s : State) (g r at t k : ℕ) (x : Translation) (e : at ≡ callerPlace (s .guests) g) (l : at < 8) (b : r ≤ 15) (p : t ≡ tokenUsed (cpuAt (s .cpus) at) r) (i : k ≡ tokenPlace at t)
-    (y : x ≡ translatedBy (s .spaces) (getD (s .guests) at noGuest .list) (getD (s .entries) k unusedEntry) g t) where
-  own : at ≡ guestPlace g
-  own = place-is at (s .guests) g e l
+abbrev pub throughRegister : (guest register : ℕ) → Asks
+throughRegister g r = record { caller = g; other = g; uses = Register r; sought = Nothing }
 
-  pub aimed : Aimed s g r x
-  aimed = record {
-    guest = place-yes at (s .guests) g e l;
-    register = b;
-    is = y
-        ∙ ap (λ j. translatedBy (s .spaces) (getD (s .guests) at noGuest .list) (getD (s .entries) j unusedEntry) g t) i
-        ∙ translated-is s g at t own
-        ∙ ap (translate s g) (p ∙ ap (λ j. tokenUsed (cpuAt (s .cpus) j) r) own);
-  }
+-- the call o of guest g has been seen, through register r
+module _ (s : State) (g r : ℕ) (o : Operation) (v : View) (asks : asksBy g o ≡ throughRegister g r) (e : v ≡ viewOf s (asksBy g o)) (l : v .place < 8) (b : r ≤ 15) where
+  row : rowOf g ≡ guestPlace g
+  row = ap (λ (a : Asks). rowOf (a .caller)) (sym asks) ∙ row-own s g o v e l
 
-  -- the space reached stands in the table, and its frames in scratch
-  module _ (m : List ℕ) (so : sound s ≡ true) (room : length m ≡ s .frames * 4096) (u : ℕ) (q : Right) (f : x ≡ Reached u q) where
+  seen : v ≡ viewOf s (throughRegister g r)
+  seen = e ∙ ap (viewOf s) asks
+
+  abbrev token : ℕ
+  token = tokenUsed (cpuAt (s .cpus) (guestPlace g)) r
+
+  token-is : v .token ≡ token
+  unfolding viewOf tokenBy
+  token-is = ap (λ (x : View). x .token) seen ∙ yes! _ _ (le-leb r 15 b) ∙ ap (λ k. tokenUsed (cpuAt (s .cpus) k) r) row
+
+  entry-is : v .entry ≡ getD (s .entries) (tokenPlace (guestPlace g) token) unusedEntry
+  unfolding viewOf
+  entry-is =
+      ap (λ (x : View). x .entry) seen
+      ∙ ap₂ (λ k t. getD (s .entries) (tokenPlace k t) unusedEntry) row (sym (ap (λ (x : View). x .token) seen) ∙ token-is)
+
+  slot-is : v .slot ≡ foundBy (searchThrough g token (v .entry .standing)) (s .spaces)
+  unfolding viewOf searchUsing
+  slot-is =
+      ap (λ (x : View). x .slot) seen
+      ∙ ap₂ (λ t y. foundBy (searchThrough g t y) (s .spaces)) (sym (ap (λ (x : View). x .token) seen) ∙ token-is) (ap (λ (x : View). x .entry .standing) (sym seen))
+
+  -- token 0: the primary space
+  slot-primary : token ≡ 0 → v .slot ≡ primarySlot (s .spaces) g
+  unfolding searchThrough foundBy choose soughtBy primarySlot slotNamed lowest
+  slot-primary z = slot-is ∙ ap (λ f. foundBy f (s .spaces)) (yes! _ _ (eq-eqb token 0 z))
+
+  -- an entry: its space
+  slot-entry : (u : ℕ) (q : Right) → token ≢ 0 → v .entry .standing ≡ Valid u q → v .slot ≡ u
+  unfolding searchThrough slotIn foundBy choose
+  slot-entry u q z p = slot-is ∙ ap (λ f. foundBy f (s .spaces)) (no! _ _ (ne-eqb token 0 z) ∙ ap slotIn p)
+
+  module _ (x : Translation) (y : x ≡ translatedBy (v .slot) (v .guest .list) (v .entry) (v .token)) where
+    pub aimed : Aimed s g r x
+    aimed = record {
+      guest = seen-enrolled s g o v e l;
+      register = b;
+      is = y
+          ∙ ap (translatedBy (v .slot) (v .guest .list) (v .entry)) token-is
+          ∙ ap₂ (λ (a : Guest) n. translatedBy (v .slot) (a .list) n token) (seen-guest s g o v e l) entry-is
+          ∙ translated-is s g (guestPlace g) token (v .slot) refl slot-primary;
+    }
+
+    -- the space reached is the one that was seen
+    module _ (so : sound s ≡ true) (u : ℕ) (q : Right) (f : x ≡ Reached u q) where
+      ok : Sound s
+      ok = sound-decides s .to so
+
+      reached-is-live : Live (s .spaces) u
+      reached-is-live = reached-live s ok g token u q (aimed .guest) (sym (aimed .is) ∙ f)
+
+      slot-reached : v .slot ≡ u
+      slot-reached = ⊎-elim primary entry (reached s g token u q (sym (aimed .is) ∙ f))
+        where
+          primary : ThroughPrimary s g token u q → v .slot ≡ u
+          primary p = slot-primary (p .token) ∙ sym (p .slot)
+
+          entry : ThroughEntry s g token u q → v .slot ≡ u
+          entry p =
+              let named : v .entry ≡ entryAt (s .entries) g (entryNumber token) =
+              entry-is ∙ ap (λ k. getD (s .entries) k unusedEntry) (named-place (guestPlace g) token (p .token) (p .formed)) in
+              slot-entry u q (p .token) (ap (λ (n : Entry). n .standing) named ∙ p .valid)
+
+      pub reached-space : v .space ≡ spaceAt (s .spaces) u
+      unfolding viewOf slotRow
+      reached-space =
+          ap (λ (a : View). a .space) seen
+          ∙ ap (λ k. spaceAt (s .spaces) (slotRow k)) (sym (ap (λ (a : View). a .slot) seen) ∙ slot-reached)
+          ∙ ap (spaceAt (s .spaces)) (yes! _ _ (lt-ltb u 32 (live-slot (s .spaces) u 32 (ok .spaces .len) reached-is-live)))
+
+-- Whatever slot was seen, the frames of what stands there are in scratch: a slot with no live space holds zeros.
+pub any-run : (s : State) (u : ℕ) (m : List ℕ) → sound s ≡ true → length m ≡ s .frames * 4096 → RunIn (spaceAt (s .spaces) u) m
+unfolding frameOf
+any-run s u m so room = go (decLe 1 (spaceAt (s .spaces) u .id))
+  where
     ok : Sound s
     ok = sound-decides s .to so
 
-    reached-is-live : Live (s .spaces) u
-    reached-is-live = reached-live s ok g (tokenUsed (cpuAt (s .cpus) (guestPlace g)) r) u q (aimed .guest) (sym (aimed .is) ∙ f)
-
-    pub reached-slot : u < 32
-    reached-slot = live-slot (s .spaces) u 32 (ok .spaces .len) reached-is-live
-
-    pub reached-run : RunIn (getD (s .spaces) u noSpace) m
-    unfolding frameOf
-    reached-run =
+    go : Dec (1 ≤ spaceAt (s .spaces) u .id) → RunIn (spaceAt (s .spaces) u) m
+    go (no n) = rw (ok .spaces .dead u (omega arith)) (omega arith)
+    go (yes live) =
         let y = spaceAt (s .spaces) u in
-        let one : 1 ≤ y .pages = ok .spaces .pages u reached-is-live in
-        omega (arith, room, ok .spaces .inside u (y .pages - 1) reached-is-live (omega arith))
+        let one : 1 ≤ y .pages = ok .spaces .pages u live in
+        omega (arith, room, ok .spaces .inside u (y .pages - 1) live (omega arith))
+
+pub seen-run : (s : State) (a : Asks) (v : View) (m : List ℕ) → sound s ≡ true → length m ≡ s .frames * 4096 → v ≡ viewOf s a → RunIn (v .space) m
+unfolding viewOf
+seen-run s a v m so room e = rw e (any-run s _ m so room)
 
 pub length-small : (y : Bool) (n : ℕ) → y ≡ goodLength n → not y ≡ false → n ≤ 256
 length-small y n e l = leb-true n 256 (both-right (leb 1 n) (leb n 256) (test-yes y (goodLength n) e l))

@@ -1,5 +1,5 @@
-// FETCH and STORE, for callers that hold a sound state: from a register, through its token, to the bytes of a space.
-// Each makes its checks itself: a function that made them for both would have the state copied to it.
+// FETCH and STORE: from a register, through its token, to the bytes of a space. Each is decided and carried out on what it has
+// seen of the tables, of any state that it was seen in; and of a sound state that is handed over.
 ghost use Prim.Native.Nat.{_*_};
 ghost use mathlib.Core.Bool.{true};
 ghost use mathlib.Core.Path.{_≡_};
@@ -9,27 +9,22 @@ ghost use Rattle.model.specs.Leaves.{scratchJudged, bufferJudged};
 ghost use Rattle.model.specs.Replies.{callOf};
 ghost use Rattle.model.specs.SoundTest.{sound};
 ghost use Rattle.model.specs.declared.Operation.the-variants.{Fetch, Store};
+ghost use Rattle.transfer.specs.Transferred.{RunIn};
+ghost use Rattle.access.specs.Access.{Fetches, Stores};
 use model::Answer;
+use model::Call;
 use model::Caller;
 use model::Kind;
+use model::Operation;
 use model::State;
 use model::Translation;
+use views::View;
 
-pub fn fetch(
-    s: State,
-    scratch: &[u8],
-    caller: Caller,
-    register: u32,
-    address: u32,
-    buffer: &mut [u8],
-) -> Answer
-    requires { ⌜ (sound s ≡ true) × (length (now scratch) ≡ s .frames * 4096) ⌝ }
-    ensures { λ r. ⌜ r ≡ judge s (callOf caller (Fetch register address)) (length (now (buffer .entry))) .answer ⌝ }
-    ensures { λ _. ⌜ now (buffer .exit) ≡ bufferJudged s (callOf caller (Fetch register address)) (now (scratch .entry)) (now (buffer .entry)) ⌝ }
+pub fn fetch_seen(v: View, scratch: &[u8], register: u32, address: u32, buffer: &mut [u8]) -> Answer
+    requires { ⌜ RunIn (v .space) (now scratch) ⌝ }
+    ensures { λ r. ⌜ Fetches v register address (now (scratch .entry)) (now (buffer .entry)) r (now (buffer .exit)) ⌝ }
 {
-    let gs = s.guests;
-    let at = lookup::caller_place(gs, caller.guest);
-    if 8 <= at {
+    if 8 <= v.place {
         return Answer::BadCaller;
     }
     if 15 < register {
@@ -44,35 +39,22 @@ pub fn fetch(
             place: 4,
         };
     }
-    let c = s.cpus[at];
-    let token = translation::token_used(c, register);
-    let e = s.entries[translation::entry_place(at, token)];
-    let g = s.guests[at];
-    let ss = s.spaces;
-    match translation::translate(ss, g.list, e, caller.guest, token) {
+    let g = v.guest;
+    let e = v.entry;
+    match translation::translate(v.slot, g.list, e, v.token) {
         Translation::Refused(refusal) => return refusal,
-        Translation::Reached { slot, right: _ } => {
-            let x = s.spaces[slot as usize];
+        Translation::Reached { slot: _, right: _ } => {
+            let x = v.space;
             transfer::fetch_from(x, scratch, address, buffer)
         }
     }
 }
 
-pub fn store(
-    s: State,
-    scratch: &mut [u8],
-    caller: Caller,
-    register: u32,
-    address: u32,
-    bytes: &[u8],
-) -> Answer
-    requires { ⌜ (sound s ≡ true) × (length (now scratch) ≡ s .frames * 4096) ⌝ }
-    ensures { λ r. ⌜ r ≡ judge s (callOf caller (Store register address)) (length (now (bytes .entry))) .answer ⌝ }
-    ensures { λ _. ⌜ now (scratch .exit) ≡ scratchJudged s (callOf caller (Store register address)) (now (scratch .entry)) (now (bytes .entry)) ⌝ }
+pub fn store_seen(v: View, scratch: &mut [u8], register: u32, address: u32, bytes: &[u8]) -> Answer
+    requires { ⌜ RunIn (v .space) (now scratch) ⌝ }
+    ensures { λ r. ⌜ Stores v register address (now (scratch .entry)) (now (bytes .entry)) r (now (scratch .exit)) ⌝ }
 {
-    let gs = s.guests;
-    let at = lookup::caller_place(gs, caller.guest);
-    if 8 <= at {
+    if 8 <= v.place {
         return Answer::BadCaller;
     }
     if 15 < register {
@@ -87,16 +69,53 @@ pub fn store(
             place: 4,
         };
     }
-    let c = s.cpus[at];
-    let token = translation::token_used(c, register);
-    let e = s.entries[translation::entry_place(at, token)];
-    let g = s.guests[at];
-    let ss = s.spaces;
-    match translation::translate(ss, g.list, e, caller.guest, token) {
+    let g = v.guest;
+    let e = v.entry;
+    match translation::translate(v.slot, g.list, e, v.token) {
         Translation::Refused(refusal) => return refusal,
-        Translation::Reached { slot, right } => {
-            let x = s.spaces[slot as usize];
+        Translation::Reached { slot: _, right } => {
+            let x = v.space;
             transfer::store_to(x, right, scratch, address, bytes)
         }
     }
+}
+
+pub fn fetch(
+    s: State,
+    scratch: &[u8],
+    caller: Caller,
+    register: u32,
+    address: u32,
+    buffer: &mut [u8],
+) -> Answer
+    requires { ⌜ (sound s ≡ true) × (length (now scratch) ≡ s .frames * 4096) ⌝ }
+    ensures { λ r. ⌜ r ≡ judge s (callOf caller (Fetch register address)) (length (now (buffer .entry))) .answer ⌝ }
+    ensures { λ _. ⌜ now (buffer .exit) ≡ bufferJudged s (callOf caller (Fetch register address)) (now (scratch .entry)) (now (buffer .entry)) ⌝ }
+{
+    let operation = Operation::Fetch {
+        register: register,
+        address: address,
+    };
+    let v = views::seen_in(s, views::asked_by(Call { caller, operation }));
+    fetch_seen(v, scratch, register, address, buffer)
+}
+
+pub fn store(
+    s: State,
+    scratch: &mut [u8],
+    caller: Caller,
+    register: u32,
+    address: u32,
+    bytes: &[u8],
+) -> Answer
+    requires { ⌜ (sound s ≡ true) × (length (now scratch) ≡ s .frames * 4096) ⌝ }
+    ensures { λ r. ⌜ r ≡ judge s (callOf caller (Store register address)) (length (now (bytes .entry))) .answer ⌝ }
+    ensures { λ _. ⌜ now (scratch .exit) ≡ scratchJudged s (callOf caller (Store register address)) (now (scratch .entry)) (now (bytes .entry)) ⌝ }
+{
+    let operation = Operation::Store {
+        register: register,
+        address: address,
+    };
+    let v = views::seen_in(s, views::asked_by(Call { caller, operation }));
+    store_seen(v, scratch, register, address, bytes)
 }

@@ -1,44 +1,73 @@
--- What the code of LOAD and MODE has made where every check passed is what the model says. Assumes nothing.
+-- What LOAD and MODE decide on what they have seen is what the model says. Assumes nothing.
 use Prim.Native.Nat.{ℕ, _≤_, _<_}
-use mathlib.Core.Bool.{true, false}
-use mathlib.Core.Path.{_≡_}
+use mathlib.Core.Bool.{Bool, true, false, not}
+use mathlib.Core.Path.{_≡_, refl, sym, ap, _∙_}
+use native.Mathlib.Omega.{arith}
 use lib.Dec.{eqb}
-use lib.ListN.{getD, set}
-use borrow.Author.Tests.{le-leb}
-use Rattle.lists.specs.Choice.{choose, implies}
-use Rattle.model.specs.declared.Answer.the-variants.{Done, SpecialOperation}
+use borrow.Author.Tests.{le-leb, lt-leb}
+use Rattle.lists.specs.Choice.{implies}
+use Rattle.lists.proofs.Rules.{test-no, test-yes}
+use Rattle.model.specs.declared.Answer.the-variants.{Done, BadCaller, Limit, SpecialOperation}
 use Rattle.model.specs.declared.Caller.{Caller}
+use Rattle.model.specs.declared.Change.the-variants.{SetRegister, SetMode}
+use Rattle.model.specs.declared.Guest.{Guest}
+use Rattle.model.specs.declared.Kind.the-variants.{Register as RegisterKind, Flag}
 use Rattle.model.specs.declared.Operation.the-variants.{Load, Mode}
-use Rattle.model.specs.declared.Reply.{Reply}
 use Rattle.model.specs.declared.State.{State}
 use Rattle.model.specs.Arguments.{arguments, checkAll}
-use Rattle.model.specs.Calls.{judge, goodCaller, enrols, perform, load, mode}
-use Rattle.model.specs.Leaves.{callerPlace}
-use Rattle.model.specs.Replies.{reply, replied, callOf}
-use Rattle.model.specs.Searches.{enrolled}
-use Rattle.model.specs.Tables.{noGuest, cpuAt, cpuPlace, withCpus}
-use Rattle.model.proofs.Rules.{go-on, refuse-at, place-yes, place-is}
+use Rattle.model.specs.Calls.{enrols, perform, load, mode}
+use Rattle.model.specs.Tables.{guestAt}
+use Rattle.model.proofs.Rules.{check-yes, check-no}
+use Rattle.edits.specs.declared.Edit.the-variants.{Nothing, Register, Mode as ModeEdit}
+use Rattle.edits.specs.declared.Edited.{Edited}
+use Rattle.edits.specs.Edits.{changeOf, Fits, Decides, Decided}
+use Rattle.edits.proofs.Kept.{decided-refused, decided-done}
+use Rattle.views.specs.declared.View.{View}
+use Rattle.views.specs.Asks.{asksBy}
+use Rattle.views.specs.Views.{viewOf}
+use Rattle.views.proofs.Judged.{judged-bad, judged-good, place-own, seen-guest}
 
-module _ (s : State) (c : Caller) (at : ℕ) (e : at ≡ callerPlace (s .guests) (c .guest)) (l : at < 8) where
-  own : at ≡ cpuPlace c
-  own = place-is at (s .guests) (c .guest) e l
+module _ (v : View) (r n : ℕ) (x : Edited) where
+  pub load-bad : 8 ≤ v .place → x ≡ record { answer = BadCaller; edit = Nothing } → Decided v (Load r n) x
+  unfolding enrols
+  load-bad h p = decided-refused v (Load r n) x BadCaller p (λ s c ok e. judged-bad s c (Load r n) 0 v refl e h)
 
-  caller : enrolled (s .guests) (c .guest) ≡ true
-  caller = place-yes at (s .guests) (c .guest) e l
+  module _ (l : v .place < 8) where
+    pub load-limit : 15 < r → x ≡ record { answer = Limit RegisterKind 2; edit = Nothing } → Decided v (Load r n) x
+    unfolding enrols arguments checkAll perform
+    load-limit h p = decided-refused v (Load r n) x _ p (λ s c ok e. judged-good s c (Load r n) 0 v refl e l ∙ check-no _ _ (lt-leb r 15 h))
 
-  -- x is what the code made; the state is thus had from the call that is judged, and not from x
-  pub load-done : (r v : ℕ) (x : Reply) → r ≤ 15
-      → x ≡ reply (Done 0) (withCpus s (set (s .cpus) at (record { registers = set (cpuAt (s .cpus) at .registers) r v; mode = cpuAt (s .cpus) at .mode }))) → x ≡ replied s (judge s (callOf c (Load r v)) 0)
-  unfolding judge goodCaller enrols choose arguments checkAll perform load replied
-  load-done r v x b p = go-on _ s _ _ _ caller (go-on _ s _ _ _ (le-leb r 15 b) (rw own at p))
+    pub load-done : r ≤ 15 → x ≡ record { answer = Done 0; edit = Register (v .place) r n } → Decided v (Load r n) x
+    unfolding enrols arguments checkAll perform load changeOf Fits
+    load-done h p =
+        decided-done v (Load r n) x _ _ p (l, omega arith)
+        (λ s c ok e. rw (judged-good s c (Load r n) 0 v refl e l ∙ check-yes _ _ (le-leb r 15 h))
+        (record { answer = refl; change = ap (λ k. SetRegister k r n) (place-own s (c .guest) (Load r n) v e l) }))
 
-  -- MODE's last check reads the guest at the caller's place
-  module _ (m : ℕ) (b : m ≤ 1) where
-    pub mode-refused : implies (eqb m 1) (getD (s .guests) at noGuest .asf) ≡ false → reply SpecialOperation s ≡ replied s (judge s (callOf c (Mode m)) 0)
-    unfolding judge goodCaller enrols choose arguments checkAll perform mode
-    mode-refused n = go-on _ s _ _ _ caller (go-on _ s _ _ _ (le-leb m 1 b) (refuse-at s _ _ _ (rw own at n)))
+module _ (v : View) (m : ℕ) (x : Edited) where
+  pub mode-bad : 8 ≤ v .place → x ≡ record { answer = BadCaller; edit = Nothing } → Decided v (Mode m) x
+  unfolding enrols
+  mode-bad h p = decided-refused v (Mode m) x _ p (λ s c ok e. judged-bad s c (Mode m) 0 v refl e h)
 
-    pub mode-done : (x : Reply) → implies (eqb m 1) (getD (s .guests) at noGuest .asf) ≡ true
-        → x ≡ reply (Done 0) (withCpus s (set (s .cpus) at (record { registers = cpuAt (s .cpus) at .registers; mode = eqb m 1 }))) → x ≡ replied s (judge s (callOf c (Mode m)) 0)
-    unfolding judge goodCaller enrols choose arguments checkAll perform mode replied
-    mode-done x y p = go-on _ s _ _ _ caller (go-on _ s _ _ _ (le-leb m 1 b) (go-on _ s _ _ _ (rw own at y) (rw own at p)))
+  module _ (l : v .place < 8) where
+    pub mode-limit : 1 < m → x ≡ record { answer = Limit Flag 2; edit = Nothing } → Decided v (Mode m) x
+    unfolding enrols arguments checkAll perform
+    mode-limit h p = decided-refused v (Mode m) x _ p (λ s c ok e. judged-good s c (Mode m) 0 v refl e l ∙ check-no _ _ (lt-leb m 1 h))
+
+    -- the control is the caller's
+    module _ (h : m ≤ 1) (b : Bool) (q : b ≡ implies (eqb m 1) (v .guest .asf)) where
+      asked : (s : State) (c : Caller) → v ≡ viewOf s (asksBy (c .guest) (Mode m)) → b ≡ implies (eqb m 1) (guestAt (s .guests) (c .guest) .asf)
+      asked s c e = q ∙ ap (λ (g : Guest). implies (eqb m 1) (g .asf)) (seen-guest s (c .guest) (Mode m) v e l)
+
+      pub mode-refused : not b ≡ true → x ≡ record { answer = SpecialOperation; edit = Nothing } → Decided v (Mode m) x
+      unfolding enrols arguments checkAll perform mode
+      mode-refused n p =
+          decided-refused v (Mode m) x _ p
+          (λ s c ok e. judged-good s c (Mode m) 0 v refl e l ∙ check-yes _ _ (le-leb m 1 h) ∙ check-no _ _ (test-no b _ (asked s c e) n))
+
+      pub mode-done : not b ≡ false → x ≡ record { answer = Done 0; edit = ModeEdit (v .place) (eqb m 1) } → Decided v (Mode m) x
+      unfolding enrols arguments checkAll perform mode changeOf Fits
+      mode-done n p =
+          decided-done v (Mode m) x _ _ p l
+          (λ s c ok e. rw (judged-good s c (Mode m) 0 v refl e l ∙ check-yes _ _ (le-leb m 1 h) ∙ check-yes _ _ (test-yes b _ (asked s c e) n))
+          (record { answer = refl; change = ap (λ k. SetMode k (eqb m 1)) (place-own s (c .guest) (Mode m) v e l) }))

@@ -1,4 +1,5 @@
-// LOAD and MODE, for callers that hold a sound state: the registers and the mode of the caller's CPU.
+// LOAD and MODE: the registers and the mode of the caller's CPU. Each is decided on what it has seen of the tables, of any
+// state that it was seen in; and of a sound state that is handed over.
 ghost use mathlib.Core.Bool.{true};
 ghost use mathlib.Core.Path.{_≡_};
 ghost use lib.Dec.{eqb};
@@ -7,40 +8,48 @@ ghost use Rattle.model.specs.Calls.{judge};
 ghost use Rattle.model.specs.Replies.{replied, callOf};
 ghost use Rattle.model.specs.SoundTest.{sound};
 ghost use Rattle.model.specs.declared.Operation.the-variants.{Load, Mode};
+ghost use Rattle.edits.specs.Edits.{Decided};
+use edits::Edit;
+use edits::Edited;
 use model::Answer;
+use model::Call;
 use model::Caller;
 use model::Kind;
+use model::Operation;
 use model::Reply;
 use model::State;
+use views::View;
 
-pub fn load(mut s: State, caller: Caller, register: u32, value: u32) -> Reply
+pub fn decide_load(v: View, register: u32, value: u32) -> Edited
+    ensures { λ r. ⌜ Decided v (Load register value) r ⌝ }
+{
+    let at = v.place;
+    if 8 <= at {
+        return edits::refused(Answer::BadCaller);
+    }
+    if 15 < register {
+        return edits::refused(Answer::Limit {
+            kind: Kind::Register,
+            place: 2,
+        });
+    }
+    edits::done(Edit::Register {
+        cpu: at as u8,
+        register: register as u8,
+        value: value,
+    })
+}
+
+pub fn load(s: State, caller: Caller, register: u32, value: u32) -> Reply
     requires { ⌜ sound s ≡ true ⌝ }
     ensures { λ r. ⌜ r ≡ replied s (judge s (callOf caller (Load register value)) 0) ⌝ }
 {
-    let gs = s.guests;
-    let at = lookup::caller_place(gs, caller.guest);
-    if 8 <= at {
-        return Reply {
-            answer: Answer::BadCaller,
-            state: s,
-        };
-    }
-    if 15 < register {
-        return Reply {
-            answer: Answer::Limit {
-                kind: Kind::Register,
-                place: 2,
-            },
-            state: s,
-        };
-    }
-    let mut c = s.cpus[at];
-    c.registers[register as usize] = value;
-    s.cpus[at] = c;
-    Reply {
-        answer: Answer::Done { value: 0 },
-        state: s,
-    }
+    let operation = Operation::Load {
+        register: register,
+        value: value,
+    };
+    let v = views::seen_in(s, views::asked_by(Call { caller, operation }));
+    edits::carried(s, decide_load(v, register, value))
 }
 
 // Only access-register mode asks for the ASF control.
@@ -53,39 +62,34 @@ fn may_set(mode: u32, asf: bool) -> bool
     true
 }
 
-pub fn mode(mut s: State, caller: Caller, mode: u32) -> Reply
+pub fn decide_mode(v: View, mode: u32) -> Edited
+    ensures { λ r. ⌜ Decided v (Mode mode) r ⌝ }
+{
+    let at = v.place;
+    if 8 <= at {
+        return edits::refused(Answer::BadCaller);
+    }
+    if 1 < mode {
+        return edits::refused(Answer::Limit {
+            kind: Kind::Flag,
+            place: 2,
+        });
+    }
+    let g = v.guest;
+    if !may_set(mode, g.asf) {
+        return edits::refused(Answer::SpecialOperation);
+    }
+    edits::done(Edit::Mode {
+        cpu: at as u8,
+        mode: mode == 1,
+    })
+}
+
+pub fn mode(s: State, caller: Caller, mode: u32) -> Reply
     requires { ⌜ sound s ≡ true ⌝ }
     ensures { λ r. ⌜ r ≡ replied s (judge s (callOf caller (Mode mode)) 0) ⌝ }
 {
-    let gs = s.guests;
-    let at = lookup::caller_place(gs, caller.guest);
-    if 8 <= at {
-        return Reply {
-            answer: Answer::BadCaller,
-            state: s,
-        };
-    }
-    if 1 < mode {
-        return Reply {
-            answer: Answer::Limit {
-                kind: Kind::Flag,
-                place: 2,
-            },
-            state: s,
-        };
-    }
-    let x = s.guests[at];
-    if !may_set(mode, x.asf) {
-        return Reply {
-            answer: Answer::SpecialOperation,
-            state: s,
-        };
-    }
-    let mut c = s.cpus[at];
-    c.mode = mode == 1;
-    s.cpus[at] = c;
-    Reply {
-        answer: Answer::Done { value: 0 },
-        state: s,
-    }
+    let operation = Operation::Mode { mode: mode };
+    let v = views::seen_in(s, views::asked_by(Call { caller, operation }));
+    edits::carried(s, decide_mode(v, mode))
 }

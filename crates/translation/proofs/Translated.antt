@@ -25,7 +25,7 @@ use Rattle.model.specs.Translation.{throughStanding, translate}
 use Rattle.model.proofs.Tokens.{formed}
 use Rattle.translation.specs.Translated.{tokenPlace, translatedBy}
 
-named-place : (k t : ℕ) → t ≢ 0 → malformed t ≡ false → tokenPlace k t ≡ k * 30 + (entryNumber t - 2)
+pub named-place : (k t : ℕ) → t ≢ 0 → malformed t ≡ false → tokenPlace k t ≡ k * 30 + (entryNumber t - 2)
 unfolding tokenPlace
 named-place k t z f =
     let i = formed t z f .entry in

@@ -1,3 +1,4 @@
 pub mod Slots
 pub mod Told
 pub mod Seen
+pub mod Judged

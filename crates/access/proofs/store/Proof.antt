@@ -1,63 +1,22 @@
--- `access::store` meets its contract.
-use Rattle.lists.specs.Choice.{choose}
-use Rattle.lists.proofs.Rules.{tests, test-yes}
-use Rattle.model.specs.Arguments.{arguments, checkAll}
-use Rattle.model.specs.Calls.{judge, goodCaller, enrols, perform, storing}
-use Rattle.model.proofs.Rules.{places}
-use Rattle.access.proofs.Moved.{stops, store-refused, store-stops, store-says, store-puts}
-use Rattle.access.proofs.Reach.{aimed, reached-slot, reached-run, length-small}
+-- `access::store` meets its contract. Assumes nothing.
+use Rattle.access.proofs.Moved.{store-seen-in}
+use Rattle.access.proofs.Reach.{seen-run}
 use borrow.Author.Needs.{needs}
 use Rattle.access.proofs.store.Statement.{statement}
 use Rattle.access.proofs.store.Tie as tie
 
+store-seen-requires : tie.Need-store-seen-requires
+store-seen-requires c κs = search seen-run
+
 returns : tie.Need-returns
-unfolding judge goodCaller enrols choose arguments checkAll perform storing
-returns c = store-refused _ _ _ _ _ (search (stops, places, tests) depth 8)
-
-returns-2 : tie.Need-returns-2
-unfolding judge goodCaller enrols choose arguments checkAll perform storing
-returns-2 c = store-refused _ _ _ _ _ (search (stops, places, tests) depth 8)
-
-returns-3 : tie.Need-returns-3
-unfolding judge goodCaller enrols choose arguments checkAll perform storing
-returns-3 c = store-refused _ _ _ _ _ (search (stops, places, tests) depth 8)
-
-returns-4 : tie.Need-returns-4
-returns-4 c = store-refused _ _ _ _ _ (search (store-stops, aimed, test-yes))
-
-element-copy-out-x : tie.Need-element-copy-out-x
-element-copy-out-x c = search reached-slot
-
-store-to-requires : tie.Need-store-to-requires
-store-to-requires c κs = (search length-small, search reached-run)
-
-returns-5 : tie.Need-returns-5
-returns-5 c = (search (store-says, aimed, test-yes), search (store-puts, aimed, reached-run, test-yes))
+returns c = store-seen-in _ _ _ _ _ _ _ _ _ _ (search needs) (c .before .before .before .before .before .asked-by .ensures) (c .before .before .before .before .seen-in .ensures) (c .before .before .store-seen .ensures)
 
 pub store-spec : {M : Type 1} → statement M
 store-spec =
     tie.close
     (tie.spec
     (λ c κs. search needs)
-    returns
-    returns-2
     (λ c κs. search needs)
-    returns-3
+    store-seen-requires
     (λ c. search needs)
-    (λ c. search needs)
-    (λ c κs. search needs)
-    (λ c κs. search needs)
-    (λ c. search needs)
-    (λ c. search needs)
-    (λ c. search needs)
-    (λ c. search needs)
-    (λ c κs. search needs)
-    (λ c. search needs)
-    returns-4
-    (λ c. search needs)
-    (λ c. search needs)
-    (λ c. search needs)
-    element-copy-out-x
-    store-to-requires
-    (λ c. search needs)
-    returns-5)
+    returns)

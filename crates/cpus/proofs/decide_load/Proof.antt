@@ -1,0 +1,27 @@
+-- `cpus::decide_load` meets its contract. Assumes nothing.
+use Rattle.cpus.proofs.Done.{load-bad, load-limit, load-done}
+use borrow.Author.Needs.{needs}
+use Rattle.cpus.proofs.decide_load.Statement.{statement}
+use Rattle.cpus.proofs.decide_load.Tie as tie
+
+returns : tie.Need-returns
+returns c = search load-bad
+
+returns-2 : tie.Need-returns-2
+returns-2 c = search load-limit
+
+returns-3 : tie.Need-returns-3
+returns-3 c = search load-done
+
+pub decide-load-spec : {M : Type 1} → statement M
+decide-load-spec =
+    tie.close
+    (tie.spec
+    (λ c κs. search needs)
+    returns
+    (λ c κs. search needs)
+    returns-2
+    (λ c. search needs)
+    (λ c. search needs)
+    (λ c κs. search needs)
+    returns-3)

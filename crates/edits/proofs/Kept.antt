@@ -1,0 +1,70 @@
+-- The element stands in its table; what was stored is the model's change. Assumes nothing.
+use Prim.Native.Nat.{ℕ, _<_}
+use mathlib.Core.Bool.{Bool, true}
+use mathlib.Core.Path.{_≡_, refl, sym, ap, ap₂, _∙_}
+use Rattle.model.specs.declared.Answer.{Answer}
+use Rattle.model.specs.declared.Entry.{Entry}
+use Rattle.model.specs.declared.Reply.{Reply}
+use Rattle.model.specs.declared.State.{State}
+use Rattle.model.specs.Changes.{applied}
+use Rattle.model.specs.Decision.{Decision, refuse}
+use Rattle.model.specs.declared.Caller.{Caller}
+use Rattle.model.specs.declared.Operation.{Operation}
+use Rattle.model.specs.Calls.{judge}
+use Rattle.model.specs.Replies.{reply, replied, callOf}
+use Rattle.model.specs.SoundTest.{sound}
+use Rattle.views.specs.declared.Asks.{Asks}
+use Rattle.views.specs.declared.View.{View}
+use Rattle.views.specs.Asks.{asksBy}
+use Rattle.views.specs.Views.{viewOf}
+use Rattle.edits.specs.declared.Edit.{Edit}
+use Rattle.edits.specs.declared.Edit.the-variants as edit
+use Rattle.edits.specs.declared.Edited.{Edited}
+use Rattle.edits.specs.Edits.{changeOf, Fits, Decides, Decided}
+
+module _ (x : Edit) (f : Fits x) where
+  pub entry-inside : (k : ℕ) (y : Entry) → x ≡ edit.Entry k y → k < 240
+  unfolding Fits
+  entry-inside k y e = rw e at f
+
+  pub cpu-inside : (k r v : ℕ) → x ≡ edit.Register k r v → k < 8
+  unfolding Fits
+  cpu-inside k r v e = (rw e at f) .0
+
+  pub register-inside : (k r v : ℕ) → x ≡ edit.Register k r v → r < 16
+  unfolding Fits
+  register-inside k r v e = (rw e at f) .1
+
+  pub mode-inside : (k : ℕ) (m : Bool) → x ≡ edit.Mode k m → k < 8
+  unfolding Fits
+  mode-inside k m e = rw e at f
+
+pub ruleset insides = (entry-inside, cpu-inside, register-inside, mode-inside)
+
+-- what the code has made by an edit that it has found to be y
+pub stored-by : (s t : State) (x y : Edit) → x ≡ y → t ≡ applied s (changeOf y) → t ≡ applied s (changeOf x)
+stored-by s t x y e p = p ∙ ap (λ z. applied s (changeOf z)) (sym e)
+
+pub reply-by : (a : Answer) (s t : State) → t ≡ s → reply a t ≡ reply a s
+reply-by a s t e = ap (reply a) e
+
+-- a refusal; and the reply of a call that was decided
+module _ (v : View) (o : Operation) (x : Edited) where
+  abbrev Judged : (Decision → Type 0) → Type 0
+  Judged P = (s : State) (c : Caller) → sound s ≡ true → v ≡ viewOf s (asksBy (c .guest) o) → P (judge s (callOf c o) 0)
+
+  pub decided-refused : (a : Answer) → x ≡ record { answer = a; edit = edit.Nothing } → Judged (λ d. d ≡ refuse a) → Decided v o x
+  unfolding Fits changeOf
+  decided-refused a e h = rw e (record { fits = tt; decides = λ s c ok q. rw (h s c ok q) (record { answer = refl; change = refl }) })
+
+  pub decided-done : (a : Answer) (y : Edit) → x ≡ record { answer = a; edit = y } → Fits y → Judged (Decides (record { answer = a; edit = y })) → Decided v o x
+  decided-done a y e f h = rw e (record { fits = f; decides = h })
+
+pub carried-reply : (s : State) (e : Edited) (d : Decision) (r : Reply) → Decides e d → r ≡ reply (e .answer) (applied s (changeOf (e .edit))) → r ≡ replied s d
+unfolding replied
+carried-reply s e d r h p = p ∙ ap₂ (λ a c. reply a (applied s c)) (h .answer) (h .change)
+
+-- the reply of a call on a state that was handed over
+pub seen-carried : (s : State) (c : Caller) (o : Operation) (a : Asks) (v : View) (x : Edited) (r : Reply) → sound s ≡ true → a ≡ asksBy (c .guest) o → v ≡ viewOf s a
+    → Decided v o x → r ≡ reply (x .answer) (applied s (changeOf (x .edit))) → r ≡ replied s (judge s (callOf c o) 0)
+seen-carried s c o a v x r ok p q d e = carried-reply s x (judge s (callOf c o) 0) r (d .decides s c ok (q ∙ ap (viewOf s) p)) e
