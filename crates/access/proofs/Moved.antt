@@ -207,18 +207,20 @@ module _ (v : View) (r a : ℕ) (m b : List ℕ) where
           unfolding asksBy
           fetch-reached i j = record {
             is = λ s c ok e.
-                let here = reached-space s (c .guest) r (Fetch r a) v refl e l k x p ok u q f in
-                ( fetch-says s c r a (length b) x (fetch-aimed s c e) good u q f z (rw here at i)
-                , fetch-fills s c r a m b x u q (rw here at run) (fetch-aimed s c e) good f w (rw here at j) );
+                let here = reached-space s (c .guest) r (Fetch r a) v refl e l k x p ok u q f in (
+                  fetch-says s c r a (length b) x (fetch-aimed s c e) good u q f z (rw here at i),
+                  fetch-fills s c r a m b x u q (rw here at run) (fetch-aimed s c e) good f w (rw here at j),
+                );
           }
 
           pub store-reached : z ≡ storeAnswer (v .space) q a (length b) → w ≡ stored (v .space) q a m b → Stores v r a m b z w
           unfolding asksBy
           store-reached i j = record {
             is = λ s c ok e.
-                let here = reached-space s (c .guest) r (Store r a) v refl e l k x p ok u q f in
-                ( store-says s c r a (length b) x (store-aimed s c e) good u q f z (rw here at i)
-                , store-puts s c r a m b x u q (rw here at run) (store-aimed s c e) good f w (rw here at j) );
+                let here = reached-space s (c .guest) r (Store r a) v refl e l k x p ok u q f in (
+                  store-says s c r a (length b) x (store-aimed s c e) good u q f z (rw here at i),
+                  store-puts s c r a m b x u q (rw here at run) (store-aimed s c e) good f w (rw here at j),
+                );
           }
 
 -- a state that was handed over

@@ -35,7 +35,7 @@ use Rattle.model.specs.Translation.{translate}
 use Rattle.model.proofs.Reached.{reached, reached-live}
 use Rattle.model.proofs.Searches.{live-slot}
 use Rattle.model.proofs.SoundTest.{sound-decides}
-use Rattle.lookup.specs.Rows.{rowOf}
+use Rattle.lookup.specs.Rows.{rowOf, slotRow}
 use Rattle.transfer.specs.Transferred.{RunIn}
 use Rattle.translation.specs.Translated.{tokenPlace, translatedBy}
 use Rattle.translation.proofs.Translated.{translated-is, named-place}
@@ -44,7 +44,7 @@ use Rattle.views.specs.declared.Sought.the-variants.{Nothing}
 use Rattle.views.specs.declared.Uses.the-variants.{Register}
 use Rattle.views.specs.declared.View.{View}
 use Rattle.views.specs.Asks.{asksBy, tokenBy}
-use Rattle.views.specs.Search.{soughtBy, searchUsing, searchThrough, slotIn, foundBy, slotRow}
+use Rattle.views.specs.Search.{soughtBy, searchUsing, searchThrough, slotIn, foundBy}
 use Rattle.views.specs.Views.{viewOf}
 use Rattle.views.proofs.Judged.{seen-enrolled, row-own, seen-guest}
 

@@ -14,23 +14,10 @@ use model::State;
 
 pub enum Edit {
     Nothing,
-    Permit {
-        place: u8,
-        permit: Permit,
-    },
-    Entry {
-        place: u8,
-        entry: Entry,
-    },
-    Register {
-        cpu: u8,
-        register: u8,
-        value: u32,
-    },
-    Mode {
-        cpu: u8,
-        mode: bool,
-    },
+    Permit { place: u8, permit: Permit },
+    Entry { place: u8, entry: Entry },
+    Register { cpu: u8, register: u8, value: u32 },
+    Mode { cpu: u8, mode: bool },
 }
 
 pub struct Edited {

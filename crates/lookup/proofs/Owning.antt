@@ -4,7 +4,8 @@ use mathlib.Core.List.{List}
 use mathlib.Core.Path.{_≡_, refl, sym, ap, subst, _∙_}
 use lib.Dec.{eqb, ltb}
 use borrow.Author.Tests.{ltb-true, eqb-true}
-use Rattle.lists.proofs.Choice.{choose-elim}
+use Rattle.lists.specs.Choice.{choose}
+use Rattle.lists.proofs.Choice.{yes!, choose-elim, choose-eq}
 use Rattle.model.specs.declared.Answer.{Answer}
 use Rattle.model.specs.declared.Answer.the-variants.{NoSpace, NotOwner}
 use Rattle.model.specs.declared.Reply.{Reply}
@@ -18,7 +19,8 @@ use Rattle.model.specs.Tables.{spaceAt}
 use Rattle.model.proofs.Rules.{check-yes, check-no}
 use Rattle.lookup.specs.declared.Owned.{Owned}
 use Rattle.lookup.specs.declared.Owned.the-variants.{At, Refused}
-use Rattle.lookup.specs.Owned.{ownedSpace}
+use Rattle.lookup.specs.Owned.{ownedAt, ownedSpace}
+use Rattle.lookup.specs.Rows.{slotRow}
 
 -- a decision that follows the checks, for the space with identification i
 abbrev checked : List Space → (g i : ℕ) → Decision → Decision
@@ -36,7 +38,7 @@ module _ (ss : List Space) (g i : ℕ) where
   Told (Refused a) = (d : Decision) → checked ss g i d ≡ refuse a
 
   told : Told (ownedSpace ss g i)
-  unfolding ownedSpace Told
+  unfolding ownedAt Told
   told =
       choose-elim Told (ltb (slotOf ss i) 32) _ _
       (λ l. choose-elim Told (eqb (spaceAt ss (slotOf ss i) .owner) g) _ _
@@ -57,6 +59,15 @@ module _ (ss : List Space) (g i : ℕ) where
 
     pub owned-owner : spaceAt ss u .owner ≡ g
     owned-owner = owns .owner
+
+-- what stands in the row of a slot is what stands in the slot, where there is one
+pub owned-row : (ss : List Space) (u x g : ℕ) (r : Owned) → u ≡ x → r ≡ ownedAt u (spaceAt ss (slotRow u)) g → r ≡ ownedAt x (spaceAt ss x) g
+unfolding ownedAt slotRow
+owned-row ss u x g r e p =
+    rw (← e) (p ∙ choose-eq (ltb u 32) (λ l. ap (λ k. choose (eqb (spaceAt ss k .owner) g) (At u) (Refused NotOwner)) (yes! u 0 l)) (λ _. refl))
+
+pub owned-by-row : (ss : List Space) (u k i g : ℕ) (r : Owned) → u ≡ slotOf ss i → k ≡ slotRow u → r ≡ ownedAt u (spaceAt ss k) g → r ≡ ownedSpace ss g i
+owned-by-row ss u k i g r e f p = owned-row ss u (slotOf ss i) g r e (p ∙ ap (λ j. ownedAt u (spaceAt ss j) g) f)
 
 -- for search: a call goes on, or is refused
 module _ (s : State) (g i : ℕ) (o : Owned) (is : o ≡ ownedSpace (s .spaces) g i) (x : Reply) (d : Decision) where

@@ -2,17 +2,15 @@
 -- answered, `x` what a call returns. Assumes nothing.
 use Prim.Native.Nat.{ℕ, _≤_, _<_}
 use mathlib.Core.Bool.{Bool, true, false}
-use mathlib.Core.List.{List}
 use mathlib.Core.Path.{_≡_, _∙_}
-use lib.Dec.{eqb, ltb}
-use borrow.Author.Tests.{lt-ltb, le-ltb, eq-eqb, ne-eqb}
+use lib.Dec.{ltb}
+use borrow.Author.Tests.{lt-ltb, le-ltb}
 use Rattle.lists.proofs.Choice.{no! }
 use Rattle.model.specs.declared.Answer.{Answer}
 use Rattle.model.specs.declared.Answer.the-variants.{BadCaller}
 use Rattle.model.specs.declared.Caller.{Caller}
 use Rattle.model.specs.declared.Operation.{Operation}
 use Rattle.model.specs.declared.Reply.{Reply}
-use Rattle.model.specs.declared.Space.{Space}
 use Rattle.model.specs.declared.State.{State}
 use Rattle.model.specs.Arguments.{arguments, checkAll}
 use Rattle.model.specs.Calls.{enrols, goodCaller, judge, perform}
@@ -20,7 +18,6 @@ use Rattle.model.specs.Decision.{Decision, check}
 use Rattle.model.specs.Leaves.{callerPlace}
 use Rattle.model.specs.Replies.{reply, replied, callOf}
 use Rattle.model.specs.Searches.{enrolled}
-use Rattle.model.specs.Tables.{spaceAt}
 use Rattle.model.proofs.Rules.{go-on, refuse-at, place-no, place-yes}
 
 pub found-no : (r x n : ℕ) → r ≡ x → n ≤ r → ltb x n ≡ false
@@ -30,12 +27,6 @@ pub found-yes : (r x n : ℕ) → r ≡ x → r < n → ltb x n ≡ true
 found-yes r x n e h = rw (← e) (lt-ltb r n h)
 
 pub ruleset found = (found-no, found-yes)
-
-pub owner-no : (ss : List Space) (r x g : ℕ) → r ≡ x → (spaceAt ss r .owner ≡ g → ⊥) → eqb (spaceAt ss x .owner) g ≡ false
-owner-no ss r x g e h = rw (← e) (ne-eqb (spaceAt ss r .owner) g h)
-
-pub owner-yes : (ss : List Space) (r x g : ℕ) → r ≡ x → spaceAt ss r .owner ≡ g → eqb (spaceAt ss x .owner) g ≡ true
-owner-yes ss r x g e h = rw (← e) (eq-eqb (spaceAt ss r .owner) g h)
 
 -- a refusal
 pub refused-at : (x : Reply) (s : State) (b : Bool) (a : Answer) (d : Decision) → x ≡ reply a s → b ≡ false → x ≡ replied s (check b a d)

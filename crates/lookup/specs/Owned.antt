@@ -12,9 +12,8 @@ use Rattle.model.specs.Searches.{slotOf}
 use Rattle.model.specs.Sizes.{slotCount}
 use Rattle.model.specs.Tables.{spaceAt}
 
-unfoldable pub ownedSpace : List Space → (guest id : ℕ) → Owned
-ownedSpace ss g i =
-    let u = slotOf ss i in
-    choose (ltb u slotCount)
-    (choose (eqb (spaceAt ss u .owner) g) (At u) (Refused NotOwner))
-    (Refused NoSpace)
+unfoldable pub ownedAt : (slot : ℕ) → Space → (guest : ℕ) → Owned
+ownedAt u x g = choose (ltb u slotCount) (choose (eqb (x .owner) g) (At u) (Refused NotOwner)) (Refused NoSpace)
+
+abbrev pub ownedSpace : List Space → (guest id : ℕ) → Owned
+ownedSpace ss g i = ownedAt (slotOf ss i) (spaceAt ss (slotOf ss i)) g

@@ -4,8 +4,8 @@ ghost use mathlib.Core.Path.{_≡_};
 ghost use Rattle.lists.specs.Choice.{choose};
 ghost use Rattle.model.specs.Leaves.{callerPlace};
 ghost use Rattle.model.specs.Searches.{slotOf, slotNamed, freeSlot, dataSpaces, freeEntry};
-ghost use Rattle.lookup.specs.Owned.{ownedSpace};
-ghost use Rattle.lookup.specs.Rows.{rowOf, placeBy};
+ghost use Rattle.lookup.specs.Owned.{ownedAt, ownedSpace};
+ghost use Rattle.lookup.specs.Rows.{rowOf, placeBy, slotRow};
 use model::Answer;
 use model::Entry;
 use model::Guest;
@@ -69,20 +69,37 @@ pub enum Owned {
     Refused(Answer),
 }
 
-// The checks 5 and 6.
-pub fn owned_space(spaces: [Space; 32], guest: u32, id: u32) -> Owned
-    ensures { λ r. ⌜ r ≡ ownedSpace spaces guest id ⌝ }
+// The row of a slot in its table; the first where there is none.
+pub fn slot_row(u: usize) -> usize
+    ensures { λ r. ⌜ (r ≡ slotRow u) × (r < 32) ⌝ }
 {
-    let u = find_space(spaces, id);
+    if u < 32 {
+        return u;
+    }
+    0
+}
+
+// The checks 5 and 6, for the space x in slot u.
+pub fn owned_at(u: usize, x: Space, guest: u32) -> Owned
+    ensures { λ r. ⌜ r ≡ ownedAt u x guest ⌝ }
+{
     if 32 <= u {
         return Owned::Refused(Answer::NoSpace);
     }
-    let x = spaces[u];
     if x.owner as u32 != guest {
         return Owned::Refused(Answer::NotOwner);
     }
     let slot = u as u8;
     Owned::At { slot }
+}
+
+// The same, by the table.
+pub fn owned_space(spaces: [Space; 32], guest: u32, id: u32) -> Owned
+    ensures { λ r. ⌜ r ≡ ownedSpace spaces guest id ⌝ }
+{
+    let u = find_space(spaces, id);
+    let x = spaces[slot_row(u)];
+    owned_at(u, x, guest)
 }
 
 // The slot of the live space with that owner and name.

@@ -4,7 +4,7 @@ use mathlib.Core.Bool.{true, false}
 use mathlib.Core.Path.{_≡_, refl, sym, ap, _∙_}
 use lib.ListN.{getD}
 use Rattle.lists.proofs.Choice.{no! }
-use Rattle.lookup.specs.Rows.{rowOf, placeBy}
+use Rattle.lookup.specs.Rows.{rowOf, placeBy, slotRow}
 use Rattle.model.specs.declared.State.{State}
 use Rattle.model.specs.Tables.{noSpace, noGuest, noPermit, noCpu, unusedEntry}
 use Rattle.translation.specs.Translated.{tokenPlace}
@@ -12,7 +12,7 @@ use Rattle.views.specs.declared.Asks.{Asks}
 use Rattle.views.specs.declared.Search.{Search}
 use Rattle.views.specs.declared.View.{View}
 use Rattle.views.specs.Asks.{tokenBy}
-use Rattle.views.specs.Search.{searchFor, foundBy, slotRow}
+use Rattle.views.specs.Search.{searchFor, foundBy}
 use Rattle.views.specs.Views.{viewOf}
 
 pub view-read : (s : State) (a : Asks) (row t k u column place other : ℕ) (f f₀ : Search) → row ≡ rowOf (a .caller)

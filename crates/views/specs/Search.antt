@@ -3,7 +3,7 @@ use Prim.Native.Nat.{ℕ, _+_, _-_, _<_}
 use mathlib.Core.Bool.{Bool, true, false}
 use mathlib.Core.List.{List}
 use mathlib.Core.Path.{_≡_}
-use lib.Dec.{ltb, eqb}
+use lib.Dec.{eqb}
 use Rattle.lists.specs.Choice.{choose}
 use Rattle.lists.specs.Places.{lowestFrom}
 use Rattle.model.specs.declared.Entry.{Entry}
@@ -67,7 +67,3 @@ pub record Advanced (f : Search) (x : Space) (r : Search) : Type 0 where
   pub found : (ss : List Space) → x ≡ spaceAt ss (f .at) → foundBy r ss ≡ foundBy f ss
   pub inside : r .looking ≡ true → r .at < slotCount
   pub nearer : leftOf r < leftOf f
-
--- where a slot stands in its table; the first where there is none
-unfoldable pub slotRow : (slot : ℕ) → ℕ
-slotRow u = choose (ltb u slotCount) u 0

@@ -1,7 +1,7 @@
 -- What a call sees of the tables.
 use Prim.Native.Nat.{ℕ, _+_, _*_}
 use lib.ListN.{getD}
-use Rattle.lookup.specs.Rows.{rowOf, placeBy}
+use Rattle.lookup.specs.Rows.{rowOf, placeBy, slotRow}
 use Rattle.model.specs.declared.Cpu.{Cpu}
 use Rattle.model.specs.declared.Entry.{Entry}
 use Rattle.model.specs.declared.Guest.{Guest}
@@ -11,7 +11,7 @@ use Rattle.translation.specs.Translated.{tokenPlace}
 use Rattle.views.specs.declared.Asks.{Asks}
 use Rattle.views.specs.declared.View.{View}
 use Rattle.views.specs.Asks.{tokenBy}
-use Rattle.views.specs.Search.{searchFor, foundBy, slotRow}
+use Rattle.views.specs.Search.{searchFor, foundBy}
 
 abbrev pub rowAt : State → (guest : ℕ) → Guest
 rowAt s g = getD (s .guests) (rowOf g) noGuest

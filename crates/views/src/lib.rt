@@ -6,7 +6,7 @@ ghost use mathlib.Core.Path.{_≡_};
 ghost use Rattle.views.specs.declared.Sought.the-variants.{Nothing};
 ghost use Rattle.views.specs.declared.Uses.the-variants.{Register};
 ghost use Rattle.views.specs.Asks.{asksBy, asksFor, plainly, tokenBy};
-ghost use Rattle.views.specs.Search.{soughtBy, searchBy, searchThrough, searchFor, Advanced, slotRow};
+ghost use Rattle.views.specs.Search.{soughtBy, searchBy, searchThrough, searchFor, Advanced};
 ghost use Rattle.views.specs.Views.{viewOf};
 use model::BASE;
 use model::Call;
@@ -256,16 +256,6 @@ pub fn advance(f: Search, x: Space) -> Search
     }
 }
 
-// Where a slot stands in its table; the first where there is none.
-pub fn slot_row(slot: u8) -> usize
-    ensures { λ r. ⌜ (r ≡ slotRow slot) × (r < 32) ⌝ }
-{
-    if slot < 32 {
-        return slot as usize;
-    }
-    0
-}
-
 // What a call sees of a state that is handed over.
 pub fn seen_in(s: State, a: Asks) -> View
     ensures { λ r. ⌜ r ≡ viewOf s a ⌝ }
@@ -281,7 +271,7 @@ pub fn seen_in(s: State, a: Asks) -> View
         let x = s.spaces[at];
         search = advance(search, x);
     }
-    let u = slot_row(search.at);
+    let u = lookup::slot_row(search.at as usize);
     let space = s.spaces[u];
     let column = lookup::row(a.other);
     let other = s.guests[column];

@@ -31,18 +31,7 @@ loop-again : tie.Need-loop-again Inv-loop μ-loop
 loop-again c = (search went-on, search went-inside)
 
 returns : tie.Need-returns Inv-loop μ-loop
-returns c =
-    view-read _ _ _ _ _ _ _ _ _ _ _
-    (c .before .before .before .before .before .before .before .before .before .before .before .before .before .before .before .row .ensures .0)
-    (c .before .before .before .before .before .before .before .before .before .before .before .before .token-seen .ensures)
-    (c .before .before .before .before .before .before .before .before .before .before .before .entry-place .ensures .0)
-    (c .before .before .before .before .before .before .before .before .before .search-for .ensures .0)
-    (c .before .before .before .before .before .before .before .before .loop .inv .0)
-    (c .before .before .before .before .before .before .before .loop-test .left)
-    (c .before .before .before .before .before .before .slot-row .ensures .0)
-    (c .before .before .before .before .row2 .ensures .0)
-    (c .before .place-of .ensures)
-    (c .place-of2 .ensures)
+returns c = view-read _ _ _ _ _ _ _ _ _ _ _ (c .before .before .before .before .before .before .before .before .before .before .before .before .before .before .before .before .row .ensures .0) (c .before .before .before .before .before .before .before .before .before .before .before .before .before .token-seen .ensures) (c .before .before .before .before .before .before .before .before .before .before .before .before .entry-place .ensures .0) (c .before .before .before .before .before .before .before .before .before .before .search-for .ensures .0) (c .before .before .before .before .before .before .before .before .before .loop .inv .0) (c .before .before .before .before .before .before .before .before .loop-test .left) (c .before .before .before .before .before .before .slot-row .ensures .0) (c .before .before .before .before .row2 .ensures .0) (c .before .place-of .ensures) (c .place-of2 .ensures)
 
 pub seen-in-spec : {M : Type 1} → statement M
 seen-in-spec =
@@ -67,6 +56,7 @@ seen-in-spec =
     advance-requires
     loop-less
     loop-again
+    (λ c. search needs)
     (λ c κs. search needs)
     (λ c. search needs)
     (λ c. search needs)

@@ -1,9 +1,9 @@
--- `views::slot_row` meets its contract. Assumes nothing.
+-- `lookup::slot_row` meets its contract. Assumes nothing.
 use Rattle.lists.proofs.Rules.{tests}
-use Rattle.views.specs.Search.{slotRow}
+use Rattle.lookup.specs.Rows.{slotRow}
 use borrow.Author.Needs.{needs}
-use Rattle.views.proofs.slot_row.Statement.{statement}
-use Rattle.views.proofs.slot_row.Tie as tie
+use Rattle.lookup.proofs.slot_row.Statement.{statement}
+use Rattle.lookup.proofs.slot_row.Tie as tie
 
 returns : tie.Need-returns
 unfolding slotRow
