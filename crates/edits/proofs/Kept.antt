@@ -68,3 +68,7 @@ carried-reply s e d r h p = p ∙ ap₂ (λ a c. reply a (applied s c)) (h .answ
 pub seen-carried : (s : State) (c : Caller) (o : Operation) (a : Asks) (v : View) (x : Edited) (r : Reply) → sound s ≡ true → a ≡ asksBy (c .guest) o → v ≡ viewOf s a
     → Decided v o x → r ≡ reply (x .answer) (applied s (changeOf (x .edit))) → r ≡ replied s (judge s (callOf c o) 0)
 seen-carried s c o a v x r ok p q d e = carried-reply s x (judge s (callOf c o) 0) r (d .decides s c ok (q ∙ ap (viewOf s) p)) e
+
+pub seen-told : (s : State) (c : Caller) (o : Operation) (a : Asks) (v : View) (x : Edited) → sound s ≡ true → a ≡ asksBy (c .guest) o → v ≡ viewOf s a
+    → Decided v o x → x .answer ≡ judge s (callOf c o) 0 .answer
+seen-told s c o a v x ok p q d = d .decides s c ok (q ∙ ap (viewOf s) p) .answer

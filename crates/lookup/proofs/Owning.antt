@@ -69,14 +69,23 @@ owned-row ss u x g r e p =
 pub owned-by-row : (ss : List Space) (u k i g : ℕ) (r : Owned) → u ≡ slotOf ss i → k ≡ slotRow u → r ≡ ownedAt u (spaceAt ss k) g → r ≡ ownedSpace ss g i
 owned-by-row ss u k i g r e f p = owned-row ss u (slotOf ss i) g r e (p ∙ ap (λ j. ownedAt u (spaceAt ss j) g) f)
 
+-- what follows the checks
+module _ (s : State) (g i : ℕ) (o : Owned) (is : o ≡ ownedSpace (s .spaces) g i) (d : Decision) where
+  pub owning-passes : (u : ℕ) → o ≡ At u → owning s g (slotOf (s .spaces) i) d ≡ d
+  unfolding owning
+  owning-passes u e = owns (s .spaces) g i o u is e .passes d
+
+  pub owning-stops : (a : Answer) → o ≡ Refused a → owning s g (slotOf (s .spaces) i) d ≡ refuse a
+  unfolding owning Told
+  owning-stops a e = subst (Told (s .spaces) g i) (sym is ∙ e) (told (s .spaces) g i) d
+
 -- for search: a call goes on, or is refused
 module _ (s : State) (g i : ℕ) (o : Owned) (is : o ≡ ownedSpace (s .spaces) g i) (x : Reply) (d : Decision) where
   pub owning-yes : (u : ℕ) → o ≡ At u → x ≡ replied s d → x ≡ replied s (owning s g (slotOf (s .spaces) i) d)
-  unfolding owning
-  owning-yes u e p = p ∙ ap (replied s) (sym (owns (s .spaces) g i o u is e .passes d))
+  owning-yes u e p = p ∙ ap (replied s) (sym (owning-passes s g i o is d u e))
 
   pub owning-no : (a : Answer) → o ≡ Refused a → x ≡ reply a s → x ≡ replied s (owning s g (slotOf (s .spaces) i) d)
-  unfolding owning replied Told
-  owning-no a e p = p ∙ ap (replied s) (sym (subst (Told (s .spaces) g i) (sym is ∙ e) (told (s .spaces) g i) d))
+  unfolding replied
+  owning-no a e p = p ∙ ap (replied s) (sym (owning-stops s g i o is d a e))
 
 pub ruleset settling = (owning-no, owning-yes)

@@ -1,23 +1,31 @@
-// PERMIT, QUERY, ADD and REMOVE, for callers that hold a sound state.
+// PERMIT, QUERY, ADD and REMOVE. All but ADD are decided on what they have seen of the tables, of any state that it was seen in;
+// and each of a sound state that is handed over.
 ghost use Prim.Native.Nat.{_<_};
 ghost use mathlib.Core.Bool.{true};
 ghost use mathlib.Core.Path.{_≡_};
+ghost use lib.Dec.{leb};
+ghost use Rattle.lists.specs.Choice.{both};
 ghost use Rattle.model.specs.Calls.{judge};
 ghost use Rattle.model.specs.Replies.{reply, replied, callOf};
 ghost use Rattle.model.specs.SoundTest.{sound};
 ghost use Rattle.model.specs.declared.Operation.the-variants.{Permit as PermitCall, Query, Add, Remove};
-ghost use Rattle.rights.specs.Leaves.{otherPlace, entered};
+ghost use Rattle.edits.specs.Edits.{Decided};
+ghost use Rattle.rights.specs.Leaves.{entered};
+use edits::Edit;
+use edits::Edited;
 use lookup::Owned;
 use model::Answer;
+use model::Call;
 use model::Caller;
 use model::Entry;
-use model::Guest;
 use model::Kind;
+use model::Operation;
 use model::Permit;
 use model::Reply;
 use model::Right;
 use model::Standing;
 use model::State;
+use views::View;
 
 // A call that is refused changes nothing.
 fn refuse(s: State, a: Answer) -> Reply
@@ -29,95 +37,106 @@ fn refuse(s: State, a: Answer) -> Reply
     }
 }
 
-// The place of an enrolled guest that is not the caller; 8 for any other number.
-fn other_place(guests: [Guest; 8], caller: Caller, guest: u32) -> usize
-    ensures { λ r. ⌜ r ≡ otherPlace guests caller guest ⌝ }
+// The right becomes the greater of old and new.
+pub fn decide_permit(v: View, id: u32, guest: u32, right: Right) -> Edited
+    ensures { λ r. ⌜ Decided v (PermitCall id guest right) r ⌝ }
 {
-    if guest == caller.guest {
-        return 8;
+    let at = v.place;
+    if 8 <= at {
+        return edits::refused(Answer::BadCaller);
     }
-    lookup::caller_place(guests, guest)
+    let caller = at as u32 + 1;
+    if guest == caller {
+        return edits::refused(Answer::Limit {
+            kind: Kind::OtherGuest,
+            place: 3,
+        });
+    }
+    let to = v.other;
+    if 8 <= to {
+        return edits::refused(Answer::Limit {
+            kind: Kind::OtherGuest,
+            place: 3,
+        });
+    }
+    let x = v.space;
+    let u = match lookup::owned_at(v.slot as usize, x, caller) {
+        Owned::Refused(refusal) => return edits::refused(refusal),
+        Owned::At { slot } => slot,
+    };
+    let g = v.guest;
+    if !g.share {
+        return edits::refused(Answer::NoSharing);
+    }
+    let p = v.permit;
+    let old = p.grant;
+    let grant = permits::raise(old, right);
+    edits::done(Edit::Permit {
+        place: u * 8 + to as u8,
+        permit: Permit { grant },
+    })
 }
 
-// The right becomes the greater of old and new.
-pub fn permit(mut s: State, caller: Caller, id: u32, guest: u32, right: Right) -> Reply
+pub fn permit(s: State, caller: Caller, id: u32, guest: u32, right: Right) -> Reply
     requires { ⌜ sound s ≡ true ⌝ }
     ensures { λ r. ⌜ r ≡ replied s (judge s (callOf caller (PermitCall id guest right)) 0) ⌝ }
 {
-    let gs = s.guests;
-    let at = lookup::caller_place(gs, caller.guest);
-    if 8 <= at {
-        return refuse(s, Answer::BadCaller);
+    let operation = Operation::Permit { id, guest, right };
+    let v = views::seen_in(s, views::asked_by(Call { caller, operation }));
+    edits::carried(s, decide_permit(v, id, guest, right))
+}
+
+fn is_guest(g: u32) -> bool
+    ensures { λ r. ⌜ r ≡ both (leb 1 g) (leb g 8) ⌝ }
+{
+    if g == 0 {
+        return false;
     }
-    let to = other_place(gs, caller, guest);
-    if 8 <= to {
-        return refuse(
-            s,
-            Answer::Limit {
-                kind: Kind::OtherGuest,
-                place: 3,
-            },
-        );
-    }
-    let ss = s.spaces;
-    let u = match lookup::owned_space(ss, caller.guest, id) {
-        Owned::Refused(refusal) => return refuse(s, refusal),
-        Owned::At { slot } => slot as usize,
-    };
-    let g = gs[at];
-    if !g.share {
-        return refuse(s, Answer::NoSharing);
-    }
-    let place = u * 8 + to;
-    let p = s.permits[place];
-    let old = p.grant;
-    let grant = permits::raise(old, right);
-    s.permits[place] = Permit { grant };
-    Reply {
-        answer: Answer::Done { value: 0 },
-        state: s,
-    }
+    g <= 8
 }
 
 // An absent space and one that the caller may not read are answered alike. No table changes.
+pub fn decide_query(v: View, owner: u32, name: u64) -> Edited
+    ensures { λ r. ⌜ Decided v (Query owner name) r ⌝ }
+{
+    let at = v.place;
+    if 8 <= at {
+        return edits::refused(Answer::BadCaller);
+    }
+    if !is_guest(owner) {
+        return edits::refused(Answer::Limit {
+            kind: Kind::OtherGuest,
+            place: 2,
+        });
+    }
+    if !names::good_name(name) {
+        return edits::refused(Answer::Limit {
+            kind: Kind::Name,
+            place: 3,
+        });
+    }
+    if 32 <= v.slot {
+        return edits::refused(Answer::NoSpace);
+    }
+    let x = v.space;
+    let p = v.permit;
+    if !permits::is_entitled(x, p, at as u32 + 1, Right::Read) {
+        return edits::refused(Answer::NoSpace);
+    }
+    Edited {
+        answer: Answer::Done { value: x.id },
+        edit: Edit::Nothing,
+    }
+}
+
 pub fn query(s: State, caller: Caller, owner: u32, name: u64) -> Answer
     requires { ⌜ sound s ≡ true ⌝ }
     ensures { λ r. ⌜ r ≡ judge s (callOf caller (Query owner name)) 0 .answer ⌝ }
 {
-    let gs = s.guests;
-    let at = lookup::caller_place(gs, caller.guest);
-    if 8 <= at {
-        return Answer::BadCaller;
-    }
-    if owner == 0 {
-        return Answer::Limit {
-            kind: Kind::OtherGuest,
-            place: 2,
-        };
-    }
-    if 8 < owner {
-        return Answer::Limit {
-            kind: Kind::OtherGuest,
-            place: 2,
-        };
-    }
-    if !names::good_name(name) {
-        return Answer::Limit {
-            kind: Kind::Name,
-            place: 3,
-        };
-    }
-    let ss = s.spaces;
-    let u = lookup::find_named(ss, owner, name);
-    if 32 <= u {
-        return Answer::NoSpace;
-    }
-    let x = ss[u];
-    let p = s.permits[u * 8 + at];
-    if !permits::is_entitled(x, p, caller.guest, Right::Read) {
-        return Answer::NoSpace;
-    }
-    Answer::Done { value: x.id }
+    let operation = Operation::Query { owner, name };
+    let v = views::seen_in(s, views::asked_by(Call { caller, operation }));
+    let told = decide_query(v, owner, name);
+    told.answer
 }
 
 // Entry k of the list at a guest's place, counted from 0, stands for a space. The value is its token; entries are numbered
@@ -173,30 +192,36 @@ pub fn add(s: State, caller: Caller, id: u32, right: Right) -> Reply
 }
 
 // Valid or revoked, the entry becomes unused.
-pub fn remove(mut s: State, caller: Caller, token: u32) -> Reply
+pub fn decide_remove(v: View, token: u32) -> Edited
+    ensures { λ r. ⌜ Decided v (Remove token) r ⌝ }
+{
+    let at = v.place;
+    if 8 <= at {
+        return edits::refused(Answer::BadCaller);
+    }
+    if token == 0 {
+        return edits::refused(Answer::AletSpecification);
+    }
+    if entries::is_malformed(token) {
+        return edits::refused(Answer::AletSpecification);
+    }
+    let g = v.guest;
+    let e = v.entry;
+    if !entries::is_assigned(e, g.list, token) {
+        return edits::refused(Answer::AlenTranslation);
+    }
+    let place = at * 30 + ((token % 65536) as usize - 2);
+    edits::done(Edit::Entry {
+        place: place as u8,
+        entry: entries::release(e),
+    })
+}
+
+pub fn remove(s: State, caller: Caller, token: u32) -> Reply
     requires { ⌜ sound s ≡ true ⌝ }
     ensures { λ r. ⌜ r ≡ replied s (judge s (callOf caller (Remove token)) 0) ⌝ }
 {
-    let gs = s.guests;
-    let at = lookup::caller_place(gs, caller.guest);
-    if 8 <= at {
-        return refuse(s, Answer::BadCaller);
-    }
-    if token == 0 {
-        return refuse(s, Answer::AletSpecification);
-    }
-    if entries::is_malformed(token) {
-        return refuse(s, Answer::AletSpecification);
-    }
-    let g = gs[at];
-    let place = at * 30 + ((token % 65536) as usize - 2);
-    let e = s.entries[place];
-    if !entries::is_assigned(e, g.list, token) {
-        return refuse(s, Answer::AlenTranslation);
-    }
-    s.entries[place] = entries::release(e);
-    Reply {
-        answer: Answer::Done { value: 0 },
-        state: s,
-    }
+    let operation = Operation::Remove { token };
+    let v = views::seen_in(s, views::asked_by(Call { caller, operation }));
+    edits::carried(s, decide_remove(v, token))
 }

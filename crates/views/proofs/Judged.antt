@@ -1,7 +1,8 @@
 -- Check 2 by what a call has seen, for every call but ENROL. Assumes nothing.
-use Prim.Native.Nat.{ℕ, _≤_, _<_}
+use Prim.Native.Nat.{ℕ, _+_, _*_, _≤_, _<_}
 use mathlib.Core.Bool.{true, false}
 use mathlib.Core.Path.{_≡_, refl, sym, ap, _∙_}
+use native.Mathlib.Omega.{arith}
 use lib.ListN.{getD}
 use Rattle.lists.proofs.Choice.{no! }
 use Rattle.lookup.specs.Rows.{rowOf, placeBy}
@@ -18,6 +19,7 @@ use Rattle.model.specs.Leaves.{callerPlace}
 use Rattle.model.specs.Replies.{callOf}
 use Rattle.model.specs.Searches.{enrolled}
 use Rattle.model.specs.Tables.{noGuest, guestAt, guestPlace}
+use Rattle.model.proofs.Searches.{enrolled-guest}
 use Rattle.model.proofs.Rules.{check-yes, check-no, place-no, place-yes, place-is}
 use Rattle.views.specs.declared.View.{View}
 use Rattle.views.specs.Asks.{asksBy}
@@ -58,6 +60,9 @@ module _ (s : State) (g : ℕ) (o : Operation) (v : View) (e : v ≡ viewOf s (a
     -- the row is the caller's
     pub row-own : rowOf (asksBy g o .caller) ≡ guestPlace g
     row-own = ap rowOf (asks-caller g o) ∙ enrolled-row (s .guests) g (v .place) seen-place l
+
+    pub seen-caller : v .place + 1 ≡ g
+    seen-caller = let i = enrolled-guest (s .guests) g seen-enrolled in omega (arith, place-own)
 
     pub seen-guest : v .guest ≡ guestAt (s .guests) g
     unfolding viewOf

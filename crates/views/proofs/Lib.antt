@@ -2,3 +2,4 @@ pub mod Slots
 pub mod Told
 pub mod Seen
 pub mod Judged
+pub mod Looked
