@@ -13,12 +13,10 @@ use Rattle.lists.specs.Choice.{choose}
 use Rattle.lists.specs.Places.{lowest}
 use Rattle.lists.proofs.Choice.{yes!, no!, both-right}
 use Rattle.lists.proofs.Rules.{test-yes}
-use Rattle.model.specs.declared.Cpu.{Cpu}
 use Rattle.model.specs.declared.Entry.{Entry}
 use Rattle.model.specs.declared.Guest.{Guest}
 use Rattle.model.specs.declared.Operation.{Operation}
 use Rattle.model.specs.declared.Right.{Right}
-use Rattle.model.specs.declared.Space.{Space}
 use Rattle.model.specs.declared.Standing.the-variants.{Valid}
 use Rattle.model.specs.declared.State.{State}
 use Rattle.model.specs.declared.Translation.{Translation}
@@ -28,7 +26,7 @@ use Rattle.model.specs.Frames.{frameOf}
 use Rattle.model.specs.Searches.{enrolled, slotNamed, primarySlot}
 use Rattle.model.specs.Sound.{Live, Sound}
 use Rattle.model.specs.SoundTest.{sound}
-use Rattle.model.specs.Tables.{noSpace, spaceAt, guestPlace, guestAt, cpuAt, entryAt, unusedEntry}
+use Rattle.model.specs.Tables.{spaceAt, guestPlace, cpuAt, entryAt, unusedEntry}
 use Rattle.model.specs.Through.{ThroughPrimary, ThroughEntry}
 use Rattle.model.specs.Tokens.{tokenUsed, entryNumber}
 use Rattle.model.specs.Translation.{translate}

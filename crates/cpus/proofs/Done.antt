@@ -1,7 +1,7 @@
 -- What LOAD and MODE decide on what they have seen is what the model says. Assumes nothing.
 use Prim.Native.Nat.{ℕ, _≤_, _<_}
 use mathlib.Core.Bool.{Bool, true, false, not}
-use mathlib.Core.Path.{_≡_, refl, sym, ap, _∙_}
+use mathlib.Core.Path.{_≡_, refl, ap, _∙_}
 use native.Mathlib.Omega.{arith}
 use lib.Dec.{eqb}
 use borrow.Author.Tests.{le-leb, lt-leb}
@@ -20,7 +20,7 @@ use Rattle.model.specs.Tables.{guestAt}
 use Rattle.model.proofs.Rules.{check-yes, check-no}
 use Rattle.edits.specs.declared.Edit.the-variants.{Nothing, Register, Mode as ModeEdit}
 use Rattle.edits.specs.declared.Edited.{Edited}
-use Rattle.edits.specs.Edits.{changeOf, Fits, Decides, Decided}
+use Rattle.edits.specs.Edits.{changeOf, Fits, Decided}
 use Rattle.edits.proofs.Kept.{decided-refused, decided-done}
 use Rattle.views.specs.declared.View.{View}
 use Rattle.views.specs.Asks.{asksBy}

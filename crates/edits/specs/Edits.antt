@@ -1,5 +1,5 @@
 -- One element stored, as a change of the model, and what a call's code has decided of one.
-use Prim.Native.Nat.{ℕ, _<_}
+use Prim.Native.Nat.{_<_}
 use mathlib.Core.Bool.{true}
 use mathlib.Core.Path.{_≡_}
 use Rattle.model.specs.declared.Caller.{Caller}

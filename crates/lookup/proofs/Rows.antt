@@ -9,7 +9,7 @@ use Rattle.lists.proofs.Choice.{yes!, both-left, both-when}
 use Rattle.model.specs.declared.Guest.{Guest}
 use Rattle.model.specs.Leaves.{callerPlace}
 use Rattle.model.specs.Searches.{enrolled}
-use Rattle.model.specs.Tables.{noGuest, guestPlace, guestAt}
+use Rattle.model.specs.Tables.{noGuest, guestPlace}
 use Rattle.model.proofs.Rules.{place-yes}
 use Rattle.lookup.specs.Rows.{isGuest, rowOf, placeBy}
 

@@ -6,7 +6,7 @@ use native.Mathlib.Omega.{arith}
 use lib.Dec.{leb, ltb, eqb}
 use lib.ListN.{getD}
 use borrow.Author.Tests.{ltb-true, le-ltb, lt-ltb, eq-eqb, ne-eqb}
-use Rattle.lists.specs.Choice.{choose, both, either}
+use Rattle.lists.specs.Choice.{both, either}
 use Rattle.lists.proofs.Choice.{choose-elim, both-no, both-not, both-intro, either-left, either-right, either-none, not-of}
 use Rattle.lists.proofs.Rules.{not-yes, not-no, test-no, test-yes}
 use Rattle.model.specs.declared.Answer.{Answer}
@@ -26,11 +26,10 @@ use Rattle.model.specs.declared.State.{State}
 use Rattle.model.specs.Arguments.{goodOther, arguments, checkAll}
 use Rattle.model.specs.Calls.{judge, enrols, perform, permit, query, remove, entitled}
 use Rattle.model.specs.Changes.{allows, raised, released}
-use Rattle.model.specs.Decision.{Decision, refuse, check}
 use Rattle.model.specs.Names.{goodName}
 use Rattle.model.specs.Replies.{callOf}
 use Rattle.model.specs.Searches.{enrolled, slotOf, slotNamed}
-use Rattle.model.specs.Tables.{noPermit, unusedEntry, spaceAt, guestAt, guestPlace, grantAt, permitPlace, entryAt, entryPlace}
+use Rattle.model.specs.Tables.{noPermit, unusedEntry, spaceAt, guestAt, guestPlace, grantAt, entryAt}
 use Rattle.model.specs.Tokens.{malformed, assigned, entryNumber}
 use Rattle.model.proofs.Rules.{check-yes, check-no, place-no, place-yes, place-is}
 use Rattle.model.proofs.Tokens.{formed}
@@ -38,12 +37,11 @@ use Rattle.entries.specs.Assigned.{assignedTo}
 use Rattle.lookup.specs.declared.Owned.{Owned}
 use Rattle.lookup.specs.declared.Owned.the-variants.{At, Refused}
 use Rattle.lookup.specs.Owned.{ownedAt, ownedSpace}
-use Rattle.lookup.specs.Rows.{rowOf}
 use Rattle.lookup.proofs.Owning.{owned-row, owned-slot, owned-low, owning-passes, owning-stops}
 use Rattle.lookup.proofs.Rows.{enrolled-row}
 use Rattle.edits.specs.declared.Edit.the-variants.{Nothing, Permit as PermitEdit, Entry as EntryEdit}
 use Rattle.edits.specs.declared.Edited.{Edited}
-use Rattle.edits.specs.Edits.{changeOf, Fits, Decides, Decided}
+use Rattle.edits.specs.Edits.{changeOf, Fits, Decided}
 use Rattle.edits.proofs.Kept.{decided-refused, decided-done}
 use Rattle.translation.specs.Translated.{tokenPlace}
 use Rattle.translation.proofs.Translated.{named-place}

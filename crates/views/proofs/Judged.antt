@@ -1,10 +1,10 @@
 -- Check 2 by what a call has seen, for every call but ENROL. Assumes nothing.
-use Prim.Native.Nat.{ℕ, _+_, _*_, _≤_, _<_}
+use Prim.Native.Nat.{ℕ, _+_, _≤_, _<_}
 use mathlib.Core.Bool.{true, false}
-use mathlib.Core.Path.{_≡_, refl, sym, ap, _∙_}
+use mathlib.Core.Path.{_≡_, refl, ap, _∙_}
 use native.Mathlib.Omega.{arith}
 use lib.ListN.{getD}
-use Rattle.lists.proofs.Choice.{no! }
+use Rattle.lists.proofs.Choice.{no!}
 use Rattle.lookup.specs.Rows.{rowOf, placeBy}
 use Rattle.lookup.proofs.Rows.{row-place, enrolled-row}
 use Rattle.model.specs.declared.Answer.the-variants.{BadCaller}

@@ -1,13 +1,12 @@
 -- The space that a call names, and the permit that it looks at, as it has seen them. Assumes nothing.
 use Prim.Native.Nat.{ℕ, _+_, _*_, _<_}
-use mathlib.Core.List.{List}
-use mathlib.Core.Path.{_≡_, refl, sym, ap, ap₂, _∙_}
+use mathlib.Core.Path.{_≡_, refl, ap, _∙_}
 use lib.ListN.{getD}
 use borrow.Author.Tests.{lt-ltb}
 use Rattle.lists.specs.Choice.{choose}
 use Rattle.lists.specs.Places.{lowest}
-use Rattle.lists.proofs.Choice.{yes! }
-use Rattle.lookup.specs.Rows.{rowOf, placeBy, slotRow}
+use Rattle.lists.proofs.Choice.{yes!}
+use Rattle.lookup.specs.Rows.{rowOf, slotRow}
 use Rattle.lookup.proofs.Rows.{row-place}
 use Rattle.model.specs.declared.Right.{Right}
 use Rattle.model.specs.declared.State.{State}

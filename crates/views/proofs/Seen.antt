@@ -1,16 +1,15 @@
 -- What has been read out of the tables, element by element, is what a call sees. Assumes nothing.
 use Prim.Native.Nat.{ℕ, _+_, _*_}
-use mathlib.Core.Bool.{true, false}
-use mathlib.Core.Path.{_≡_, refl, sym, ap, _∙_}
+use mathlib.Core.Bool.{false}
+use mathlib.Core.Path.{_≡_, refl, sym, _∙_}
 use lib.ListN.{getD}
-use Rattle.lists.proofs.Choice.{no! }
+use Rattle.lists.proofs.Choice.{no!}
 use Rattle.lookup.specs.Rows.{rowOf, placeBy, slotRow}
 use Rattle.model.specs.declared.State.{State}
 use Rattle.model.specs.Tables.{noSpace, noGuest, noPermit, noCpu, unusedEntry}
 use Rattle.translation.specs.Translated.{tokenPlace}
 use Rattle.views.specs.declared.Asks.{Asks}
 use Rattle.views.specs.declared.Search.{Search}
-use Rattle.views.specs.declared.View.{View}
 use Rattle.views.specs.Asks.{tokenBy}
 use Rattle.views.specs.Search.{searchFor, foundBy}
 use Rattle.views.specs.Views.{viewOf}

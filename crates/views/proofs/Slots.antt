@@ -19,7 +19,7 @@ use Rattle.views.specs.declared.Sought.{Sought}
 use Rattle.views.specs.declared.Sought.the-variants.{Nothing, Id, Named}
 use Rattle.views.specs.declared.Uses.{Uses}
 use Rattle.views.specs.declared.Uses.the-variants.{Token, Register}
-use Rattle.views.specs.Search.{soughtBy, searching, settled, slotIn, searchThrough, searchBy, searchUsing, foundBy, leftOf, Advanced}
+use Rattle.views.specs.Search.{soughtBy, settled, slotIn, searchThrough, searchBy, searchUsing, foundBy, leftOf, Advanced}
 
 abbrev searched : Sought → (at : ℕ) → Bool → Search
 searched x k b = record { sought = x; at = k; looking = b }
