@@ -168,7 +168,7 @@ module _ (v : View) (o n : ℕ) (x : Edited) where
               ts
               ∙ ap₂ (λ (u : Space) (w : PermitRow). either (eqb (u .owner) (v .place + 1)) (allows (w .grant) Read)) (space-slot s k v e low) (permit-slot s k v e low)
               ∙ ap₂ (λ g j. either (eqb (spaceAt (s .spaces) (v .slot) .owner) g) (allows (getD (s .permits) (v .slot * 8 + j) noPermit .grant) Read))
-                  (seen-caller s (c .guest) (Query o n) v e l) (row-own s (c .guest) (Query o n) v e l)
+              (seen-caller s (c .guest) (Query o n) v e l) (row-own s (c .guest) (Query o n) v e l)
               ∙ ap (λ u. either (eqb (spaceAt (s .spaces) u .owner) (c .guest)) (allows (grantAt (s .permits) u (c .guest)) Read)) (query-finds s (c .guest) o n v e)
 
           pub query-not : not t ≡ true → x ≡ record { answer = NoSpace; edit = Nothing } → Decided v (Query o n) x

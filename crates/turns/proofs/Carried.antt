@@ -101,7 +101,7 @@ module _ (h : Host) (m d : List ℕ) (k : Call) (size : ℕ) (b : h .begun ≡ t
         usable-back (r .state) m m' (rw stepped at (ready-kept (machineOf (sessionOf h m)) (issueOf k size d) x))
 
 -- The host after a served call.
-abbrev after : Host → Reply → (place : ℕ) → Host
+abbrev pub after : Host → Reply → (place : ℕ) → Host
 after h r p = record { begun = h .begun; ready = h .ready; at = p; state = r .state }
 
 module _ (h : Host) (k : Call) (m d : List ℕ) (number size : ℕ) (q : Request) (g : q ≡ Asked k size) (b : h .begun ≡ true)
@@ -134,16 +134,12 @@ module _ (h : Host) (k : Call) (m d : List ℕ) (number size : ℕ) (q : Request
       let z : 0 + length m' ≡ room - 0 = omega (arith, c) in
       ap (λ x. m' ++ drop x m) z
 
-  -- QUERY
-  pub query-taken : (owner name p : ℕ) (a : Answer) (out' : List ℕ) → k .operation ≡ Query owner name
-      → a ≡ judge (h .state) (callOf (k .caller) (Query owner name)) 0 .answer → Wrote out (h .at) (said a []) out' p
-      → Taken (requestTurn (sessionOf h m) q d) number out (h .at) (withAt h p) m out'
-  unfolding bufferFor
-  query-taken owner name p a out' o j w =
-      let bare : given ≡ [] = rw o refl in
-      let v : Served (h .state) k (reply a (h .state)) (take room m) given (take room m) given = query-served (h .state) k (take room m) given owner name a o j in
-      let x : Wrote out (h .at) (said a given) out' p = rw bare w in
-      rw (over-same room m) at (served-taken (reply a (h .state)) (take room m) given out' p v x)
+  -- a call that stores one element at most
+  pub edit-taken : (r : Reply) (out' : List ℕ) (p : ℕ) → given ≡ [] → Served (h .state) k r (take room m) [] (take room m) [] → Wrote out (h .at) (said (r .answer) []) out' p
+      → Taken (requestTurn (sessionOf h m) q d) number out (h .at) (after h r p) m out'
+  edit-taken r out' p bare v w =
+      let v' : Served (h .state) k r (take room m) given (take room m) [] = rw bare v in
+      rw (over-same room m) at (served-taken r (take room m) [] out' p v' w)
 
   -- FETCH
   pub fetch-taken : (register address p : ℕ) (a : Answer) (bytes b' out' : List ℕ) → k .operation ≡ Fetch register address → bytes ≡ given
@@ -178,17 +174,6 @@ module _ (h : Host) (k : Call) (m d : List ℕ) (number size : ℕ) (q : Request
       let host : after h r p ≡ record { begun = true; ready = true; at = p; state = r .state } = rw (b, t) refl in
       subst (λ (x : Host). Taken (requestTurn (sessionOf h m) q d) number out (h .at) x (m' ++ drop (room - 0) m) out') host
       (rw (back r m' b' v') at (served-taken r m' b' out' p v' (rw z w)))
-
--- they have been given their parts of the buffer that the reader has filled
-pub fetch-answered : (s : Session) (q : Request) (k : Call) (size register address number place : ℕ) (b m out out' : List ℕ) (h : Host)
-    → q ≡ Asked k size → k .operation ≡ Fetch register address → Taken (requestTurn s q []) number out place h m out'
-    → Taken (requestTurn s q (dataIn q b)) number out place h m out'
-fetch-answered s q k size register address number place b m out out' h g o t = rw (fetch-bare q k size register address b g o) t
-
-pub store-answered : (s : Session) (q : Request) (k : Call) (size n register address number place : ℕ) (b m out out' : List ℕ) (h : Host)
-    → Prepared q b → q ≡ Asked k size → n ≡ min size 257 → k .operation ≡ Store register address → Taken (requestTurn s q (take (n - 0) (drop 0 b))) number out place h m out'
-    → Taken (requestTurn s q (dataIn q b)) number out place h m out'
-store-answered s q k size n register address number place b m out out' h p g i o t = rw (store-given q k size b n register address p g i o) at t
 
 -- check 1 does not hold, of a request that is known to be a call
 pub unready-answered : (h : Host) (m d out out' : List ℕ) (number size p : ℕ) (k : Call) (q : Request) → q ≡ Asked k size

@@ -3,3 +3,4 @@ pub mod Filled
 pub mod Usable
 pub mod Carried
 pub mod Waiting
+pub mod Seen

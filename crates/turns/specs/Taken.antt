@@ -1,6 +1,6 @@
 -- What becomes of one request: the session after it, and its reply.
 use Prim.Native.Nat.{ℕ, _≤_}
-use mathlib.Core.Bool.{true}
+use mathlib.Core.Bool.{Bool, true}
 use mathlib.Core.List.{List, []}
 use mathlib.Core.Path.{_≡_}
 use lib.ListN.{length, take, replicate}
@@ -12,8 +12,6 @@ use Rattle.model.specs.Lines.{stores, lengthOf}
 use Rattle.model.specs.Session.{Session, LineOutcome, Turn, bufferFor, lineText, requestTurn}
 use Rattle.ready.specs.Usable.{usable}
 use Rattle.digits.specs.Wrote.{Wrote}
-use Rattle.turns.specs.declared.Answered.{Answered}
-use Rattle.turns.specs.declared.Answered.the-variants.{To, NotYet}
 use Rattle.turns.specs.declared.Host.{Host}
 
 -- where the host stands in a session
@@ -44,12 +42,7 @@ pub record Taken (t : Turn) (number : ℕ) (out : List ℕ) (place : ℕ) (h : H
   pub ready : h .ready ≡ usable (h .state) (length m)
 
 -- what a request that is not answered yet finds: a call finds a host that check 1 holds of, and moves no bytes
-abbrev pub Waiting : Host → Request → Type 0
-Waiting h (Frames count) = Unit {0}
-Waiting h (Call k size) = (h .begun ≡ true) × (h .ready ≡ true) × (bufferFor (k .operation) size [] ≡ [])
-Waiting h NotRead = Unit {0}
-
--- the request q with the data d has been answered, and the tables are as they were; or it has no data, and nothing has been done yet
-abbrev pub AnsweredTo : Host → Request → (d m : List ℕ) → (number : ℕ) → (out : List ℕ) → Answered → (m' out' : List ℕ) → Type 0
-AnsweredTo h q d m number out (To place) m' out' = Taken (requestTurn (sessionOf h m) q d) number out (h .at) (withAt h place) m' out'
-AnsweredTo h q d m number out NotYet m' out' = Waiting h q × (d ≡ []) × (m' ≡ m) × (out' ≡ out)
+abbrev pub Waiting : (begun ready : Bool) → Request → Type 0
+Waiting b r (Frames count) = Unit {0}
+Waiting b r (Call k size) = (b ≡ true) × (r ≡ true) × (bufferFor (k .operation) size [] ≡ [])
+Waiting b r NotRead = Unit {0}

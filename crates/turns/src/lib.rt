@@ -1,4 +1,5 @@
-// One request of a session, with the buffer that the reader has filled for it: carried out and answered.
+// One request of a session, with the buffer that the reader has filled for it: carried out and answered. A request that stores
+// one element at most has what it sees of the tables; any other has the tables.
 ghost use Prim.Native.Nat.{_+_, _*_, _≤_};
 ghost use mathlib.Core.Bool.{true};
 ghost use mathlib.Core.List.{[]};
@@ -10,7 +11,11 @@ ghost use Rattle.model.specs.declared.Operation.the-variants.{Fetch, Store};
 ghost use Rattle.model.specs.declared.Request.the-variants.{Call as Asked};
 ghost use Rattle.ready.specs.Usable.{usable};
 ghost use Rattle.digits.specs.Wrote.{Wrote};
-ghost use Rattle.turns.specs.Taken.{sessionOf, dataIn, Prepared, Said, Taken, Waiting, AnsweredTo, withAt};
+ghost use Rattle.edits.specs.declared.Edit.the-variants.{Nothing};
+ghost use Rattle.turns.specs.Taken.{sessionOf, dataIn, Prepared, Said, Taken, Waiting};
+ghost use Rattle.turns.specs.Told.{Told, Seeing, AnsweredBy, AnsweredTo};
+use edits::Edit;
+use edits::Edited;
 use model::Answer;
 use model::Call;
 use model::Kind;
@@ -18,6 +23,7 @@ use model::Operation;
 use model::Reply;
 use model::Request;
 use model::State;
+use views::View;
 
 // What stands between two lines: whether a FRAMES has been done, whether check 1 holds, the place of the next reply, and the
 // tables. It goes in, is changed and comes back, so that the tables are moved least.
@@ -28,9 +34,19 @@ pub struct Host {
     pub state: State,
 }
 
-// What became of a request that leaves the tables: its reply ends at a place. One that may change them is not answered yet.
+// What the owner of the tables tells a request beside what it sees of them: the same, with F and the line's number.
+pub struct Here {
+    pub begun: bool,
+    pub ready: bool,
+    pub frames: u32,
+    pub at: usize,
+    pub number: u64,
+}
+
+// What became of a request: its reply ends at a place, and the owner of the tables has an element to store. One that asks for
+// whole tables is not answered yet.
 pub enum Answered {
-    To { place: usize },
+    To { place: usize, edit: Edit },
     NotYet,
 }
 
@@ -42,12 +58,32 @@ fn put_empty(out: &mut [u8], at: usize, number: u64, request: Request, answer: A
     replies::put_line(out, at, number, request, answer, &[])
 }
 
-// FETCH, STORE and QUERY leave the tables, so that only the place after the reply comes back. The bytes of a FETCH or a STORE
-// are its part of the buffer.
+// A request that changes nothing.
+fn tell(here: Here, request: Request, answer: Answer, out: &mut [u8]) -> Answered
+    requires { ⌜ here .at + 600 ≤ length (now out) ⌝ }
+    ensures { λ r. ⌜ Told here request (record { answer = answer; edit = Nothing }) (now (out .entry)) r (now (out .exit)) ⌝ }
+{
+    tell_edit(here, request, edits::refused(answer), out)
+}
+
+// A call that stores one element at most.
+fn tell_edit(here: Here, request: Request, edited: Edited, out: &mut [u8]) -> Answered
+    requires { ⌜ here .at + 600 ≤ length (now out) ⌝ }
+    ensures { λ r. ⌜ Told here request edited (now (out .entry)) r (now (out .exit)) ⌝ }
+{
+    let answer = edited.answer;
+    let edit = edited.edit;
+    Answered::To {
+        place: put_empty(out, here.at, here.number, request, answer),
+        edit: edit,
+    }
+}
+
+// The bytes of a FETCH or a STORE are its part of the buffer.
 fn answer_fetch(
-    h: Host,
+    here: Here,
+    v: View,
     scratch: &[u8],
-    number: u64,
     request: Request,
     call: Call,
     register: u32,
@@ -55,19 +91,18 @@ fn answer_fetch(
     bytes: &mut [u8],
     out: &mut [u8],
 ) -> usize
-    requires { ⌜ (request ≡ Asked call (lengthOf request)) × (h .begun ≡ true) × (h .ready ≡ true) × (h .ready ≡ usable (h .state) (length (now scratch))) × (h .at + 600 ≤ length (now out)) × (call .operation ≡ Fetch register address) × (now bytes ≡ bufferFor (call .operation) (lengthOf request) []) × (length (now bytes) ≤ 257) ⌝ }
-    ensures { λ r. ⌜ Taken (requestTurn (sessionOf h (now (scratch .entry))) request []) number (now (out .entry)) (h .at) (withAt h r) (now (scratch .entry)) (now (out .exit)) ⌝ }
+    requires { ⌜ (request ≡ Asked call (lengthOf request)) × (here .begun ≡ true) × (here .ready ≡ true) × Seeing request (length (now scratch)) here v × (here .at + 600 ≤ length (now out)) × (call .operation ≡ Fetch register address) × (now bytes ≡ bufferFor (call .operation) (lengthOf request) []) × (length (now bytes) ≤ 257) ⌝ }
+    ensures { λ r. ⌜ AnsweredBy here v request [] (now (scratch .entry)) (now (out .entry)) r Nothing (now (scratch .entry)) (now (out .exit)) ⌝ }
 {
-    let s = h.state;
-    let room = (s.frames as usize) * 4096;
-    let answer = access::fetch(s, &scratch[0..room], call.caller, register, address, bytes);
-    replies::put_line(out, h.at, number, request, answer, bytes)
+    let room = (here.frames as usize) * 4096;
+    let answer = access::fetch_seen(v, &scratch[0..room], register, address, bytes);
+    replies::put_line(out, here.at, here.number, request, answer, bytes)
 }
 
 fn answer_store(
-    h: Host,
+    here: Here,
+    v: View,
     scratch: &mut [u8],
-    number: u64,
     request: Request,
     call: Call,
     register: u32,
@@ -75,51 +110,54 @@ fn answer_store(
     bytes: &[u8],
     out: &mut [u8],
 ) -> usize
-    requires { ⌜ (request ≡ Asked call (lengthOf request)) × (h .begun ≡ true) × (h .ready ≡ true) × (h .ready ≡ usable (h .state) (length (now scratch))) × (h .at + 600 ≤ length (now out)) × (call .operation ≡ Store register address) × (length (now bytes) ≤ 257) ⌝ }
-    ensures { λ r. ⌜ Taken (requestTurn (sessionOf h (now (scratch .entry))) request (now (bytes .entry))) number (now (out .entry)) (h .at) (withAt h r) (now (scratch .exit)) (now (out .exit)) ⌝ }
+    requires { ⌜ (request ≡ Asked call (lengthOf request)) × (here .begun ≡ true) × (here .ready ≡ true) × Seeing request (length (now scratch)) here v × (here .at + 600 ≤ length (now out)) × (call .operation ≡ Store register address) × (length (now bytes) ≤ 257) ⌝ }
+    ensures { λ r. ⌜ AnsweredBy here v request (now (bytes .entry)) (now (scratch .entry)) (now (out .entry)) r Nothing (now (scratch .exit)) (now (out .exit)) ⌝ }
 {
-    let s = h.state;
-    let room = (s.frames as usize) * 4096;
-    let answer = access::store(
-        s,
-        &mut scratch[0..room],
-        call.caller,
-        register,
-        address,
-        bytes,
-    );
-    replies::put_line(out, h.at, number, request, answer, bytes)
+    let room = (here.frames as usize) * 4096;
+    let answer = access::store_seen(v, &mut scratch[0..room], register, address, bytes);
+    replies::put_line(out, here.at, here.number, request, answer, bytes)
 }
 
-// A call that leaves the tables is answered, where check 1 holds.
+// A call that stores one element at most is answered, where check 1 holds.
 fn answer_call(
-    h: Host,
+    here: Here,
+    v: View,
     scratch: &mut [u8],
-    number: u64,
     request: Request,
     call: Call,
     size: u32,
     buffer: &mut [u8],
     out: &mut [u8],
 ) -> Answered
-    requires { ⌜ Prepared request (now buffer) × (request ≡ Asked call size) × (h .begun ≡ true) × (h .ready ≡ true) × (h .ready ≡ usable (h .state) (length (now scratch))) × (h .at + 600 ≤ length (now out)) ⌝ }
-    ensures { λ r. ⌜ AnsweredTo h request (dataIn request (now (buffer .entry))) (now (scratch .entry)) number (now (out .entry)) r (now (scratch .exit)) (now (out .exit)) ⌝ }
+    requires { ⌜ Prepared request (now buffer) × (request ≡ Asked call size) × (here .begun ≡ true) × (here .ready ≡ true) × Seeing request (length (now scratch)) here v × (here .at + 600 ≤ length (now out)) ⌝ }
+    ensures { λ r. ⌜ AnsweredTo here v request (dataIn request (now (buffer .entry))) (now (scratch .entry)) (now (out .entry)) r (now (scratch .exit)) (now (out .exit)) ⌝ }
 {
     let operation = call.operation;
     let n = limits::buffer_length(size);
     match operation {
-        Operation::Query { owner, name } => {
-            let s = h.state;
-            let answer = rights::query(s, call.caller, owner, name);
-            Answered::To {
-                place: put_empty(out, h.at, number, request, answer),
-            }
+        Operation::Permit { id, guest, right } => {
+            tell_edit(
+                here,
+                request,
+                rights::decide_permit(v, id, guest, right),
+                out,
+            )
         }
+        Operation::Query { owner, name } => {
+            tell_edit(here, request, rights::decide_query(v, owner, name), out)
+        }
+        Operation::Remove { token } => {
+            tell_edit(here, request, rights::decide_remove(v, token), out)
+        }
+        Operation::Load { register, value } => {
+            tell_edit(here, request, cpus::decide_load(v, register, value), out)
+        }
+        Operation::Mode { mode } => tell_edit(here, request, cpus::decide_mode(v, mode), out),
         Operation::Fetch { register, address } => Answered::To {
             place: answer_fetch(
-                h,
+                here,
+                v,
                 scratch,
-                number,
                 request,
                 call,
                 register,
@@ -127,12 +165,13 @@ fn answer_call(
                 &mut buffer[0..n],
                 out,
             ),
+            edit: Edit::Nothing,
         },
         Operation::Store { register, address } => Answered::To {
             place: answer_store(
-                h,
+                here,
+                v,
                 scratch,
-                number,
                 request,
                 call,
                 register,
@@ -140,41 +179,36 @@ fn answer_call(
                 &buffer[0..n],
                 out,
             ),
+            edit: Edit::Nothing,
         },
         _ => Answered::NotYet,
     }
 }
 
-// A request is answered, where that leaves the tables.
+// A request is answered, where that stores one element at most.
 pub fn answer(
-    h: Host,
+    here: Here,
+    v: View,
     scratch: &mut [u8],
-    number: u64,
     request: Request,
     buffer: &mut [u8],
     out: &mut [u8],
 ) -> Answered
-    requires { ⌜ Prepared request (now buffer) × (h .ready ≡ usable (h .state) (length (now scratch))) × (h .at + 600 ≤ length (now out)) ⌝ }
-    ensures { λ r. ⌜ AnsweredTo h request (dataIn request (now (buffer .entry))) (now (scratch .entry)) number (now (out .entry)) r (now (scratch .exit)) (now (out .exit)) ⌝ }
+    requires { ⌜ Prepared request (now buffer) × Seeing request (length (now scratch)) here v × (here .at + 600 ≤ length (now out)) ⌝ }
+    ensures { λ r. ⌜ AnsweredTo here v request (dataIn request (now (buffer .entry))) (now (scratch .entry)) (now (out .entry)) r (now (scratch .exit)) (now (out .exit)) ⌝ }
 {
     match request {
         Request::Frames { .. } => Answered::NotYet,
         Request::Call { call, length: size } => {
-            if !h.begun {
-                return Answered::To {
-                    place: put_empty(out, h.at, number, request, Answer::LineNotRead),
-                };
+            if !here.begun {
+                return tell(here, request, Answer::LineNotRead, out);
             }
-            if !h.ready {
-                return Answered::To {
-                    place: put_empty(out, h.at, number, request, Answer::Unsound),
-                };
+            if !here.ready {
+                return tell(here, request, Answer::Unsound, out);
             }
-            answer_call(h, scratch, number, request, call, size, buffer, out)
+            answer_call(here, v, scratch, request, call, size, buffer, out)
         }
-        Request::NotRead => Answered::To {
-            place: put_empty(out, h.at, number, request, Answer::LineNotRead),
-        },
+        Request::NotRead => tell(here, request, Answer::LineNotRead, out),
     }
 }
 
@@ -243,7 +277,7 @@ fn frames(mut h: Host, scratch: &[u8], number: u64, count: u32, out: &mut [u8]) 
 
 // A request that was not answered yet.
 pub fn change(h: Host, scratch: &mut [u8], number: u64, request: Request, out: &mut [u8]) -> Host
-    requires { ⌜ Waiting h request × (h .ready ≡ usable (h .state) (length (now scratch))) × (h .at + 600 ≤ length (now out)) ⌝ }
+    requires { ⌜ Waiting (h .begun) (h .ready) request × (h .ready ≡ usable (h .state) (length (now scratch))) × (h .at + 600 ≤ length (now out)) ⌝ }
     ensures { λ r. ⌜ Taken (requestTurn (sessionOf h (now (scratch .entry))) request []) number (now (out .entry)) (h .at) r (now (scratch .exit)) (now (out .exit)) ⌝ }
 {
     match request {

@@ -4,7 +4,7 @@ use mathlib.Core.Bool.{true, false}
 use mathlib.Core.Path.{_≡_, refl, ap, _∙_}
 use native.Mathlib.Omega.{arith}
 use lib.ListN.{getD}
-use Rattle.lists.proofs.Choice.{no!}
+use Rattle.lists.proofs.Choice.{no! }
 use Rattle.lookup.specs.Rows.{rowOf, placeBy}
 use Rattle.lookup.proofs.Rows.{row-place, enrolled-row}
 use Rattle.model.specs.declared.Answer.the-variants.{BadCaller}

@@ -5,7 +5,7 @@ use lib.ListN.{getD}
 use borrow.Author.Tests.{lt-ltb}
 use Rattle.lists.specs.Choice.{choose}
 use Rattle.lists.specs.Places.{lowest}
-use Rattle.lists.proofs.Choice.{yes!}
+use Rattle.lists.proofs.Choice.{yes! }
 use Rattle.lookup.specs.Rows.{rowOf, slotRow}
 use Rattle.lookup.proofs.Rows.{row-place}
 use Rattle.model.specs.declared.Right.{Right}

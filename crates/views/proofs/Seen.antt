@@ -3,7 +3,7 @@ use Prim.Native.Nat.{ℕ, _+_, _*_}
 use mathlib.Core.Bool.{false}
 use mathlib.Core.Path.{_≡_, refl, sym, _∙_}
 use lib.ListN.{getD}
-use Rattle.lists.proofs.Choice.{no!}
+use Rattle.lists.proofs.Choice.{no! }
 use Rattle.lookup.specs.Rows.{rowOf, placeBy, slotRow}
 use Rattle.model.specs.declared.State.{State}
 use Rattle.model.specs.Tables.{noSpace, noGuest, noPermit, noCpu, unusedEntry}

@@ -2,7 +2,7 @@
 use Prim.Native.Nat.{ℕ, _≤_, _<_}
 use mathlib.Core.Path.{_≡_, refl, sym, ap, _∙_}
 use borrow.Author.Tests.{le-leb, lt-leb, ne-eqb, eq-eqb}
-use Rattle.lists.proofs.Choice.{yes!, no!}
+use Rattle.lists.proofs.Choice.{yes!, no! }
 use Rattle.model.specs.declared.Call.{Call}
 use Rattle.model.specs.declared.Cpu.{Cpu}
 use Rattle.model.specs.declared.Operation.the-variants.{Permit, Query, Remove}

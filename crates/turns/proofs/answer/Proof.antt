@@ -1,22 +1,21 @@
 -- `turns::answer` meets its contract. Assumes nothing.
 use mathlib.Core.Path.{refl}
-use borrow.Author.Needs.{needs}
 use Rattle.lists.proofs.Rules.{tests}
-use Rattle.turns.proofs.Replied.{early-answered, unread-answered}
-use Rattle.turns.proofs.Carried.{unready-answered}
 use Rattle.turns.proofs.Filled.{prepared-known}
+use Rattle.turns.proofs.Seen.{early-told, unready-told, unread-told, seeing-known}
 use Rattle.turns.proofs.Waiting.{frames-wait, frames-bare, known-answered}
+use borrow.Author.Needs.{needs}
 use Rattle.turns.proofs.answer.Statement.{statement}
 use Rattle.turns.proofs.answer.Tie as tie
 
 returns : tie.Need-returns
-returns c = search early-answered
+returns c = search early-told
 
 returns-2 : tie.Need-returns-2
-returns-2 c = search unready-answered
+returns-2 c = search unready-told
 
 answer-call-requires : tie.Need-answer-call-requires
-answer-call-requires c κs = search (needs, tests, prepared-known)
+answer-call-requires c κs = search (needs, tests, prepared-known, seeing-known)
 
 returns-3 : tie.Need-returns-3
 returns-3 c = (search frames-wait, search frames-bare, refl, refl)
@@ -25,7 +24,7 @@ returns-4 : tie.Need-returns-4
 returns-4 c = search known-answered
 
 returns-5 : tie.Need-returns-5
-returns-5 c = search unread-answered
+returns-5 c = search unread-told
 
 pub answer-spec : {M : Type 1} → statement M
 answer-spec =

@@ -1,18 +1,17 @@
 -- `turns::answer_fetch` meets its contract. Assumes nothing.
+use Rattle.turns.proofs.Seen.{seeing-room, seeing-run, fetch-told}
 use borrow.Author.Needs.{needs}
-use Rattle.turns.proofs.Usable.{usable-sound, usable-room, usable-part}
-use Rattle.turns.proofs.Carried.{fetch-taken}
 use Rattle.turns.proofs.answer_fetch.Statement.{statement}
 use Rattle.turns.proofs.answer_fetch.Tie as tie
 
-part-fetch-end : tie.Need-part-fetch-end
-part-fetch-end c = search usable-room
+part-fetch-seen-end : tie.Need-part-fetch-seen-end
+part-fetch-seen-end c = search seeing-room
 
-fetch-requires : tie.Need-fetch-requires
-fetch-requires c κs = (search usable-sound, search usable-part)
+fetch-seen-requires : tie.Need-fetch-seen-requires
+fetch-seen-requires c κs = search seeing-run
 
 returns : tie.Need-returns
-returns c = search fetch-taken
+returns c = search fetch-told
 
 pub answer-fetch-spec : {M : Type 1} → statement M
 answer-fetch-spec =
@@ -22,8 +21,8 @@ answer-fetch-spec =
     (λ c. search needs)
     (λ c. search needs)
     (λ c. search needs)
-    part-fetch-end
-    fetch-requires
+    part-fetch-seen-end
+    fetch-seen-requires
     (λ c κs. search needs)
     (λ c. search needs)
     (λ c. search needs)
