@@ -2,7 +2,7 @@
 -- nothing.
 use Prim.Native.Nat.{ℕ, _≤_, _<_}
 use mathlib.Core.List.{List, []}
-use mathlib.Core.Path.{_≡_, sym, _∙_}
+use mathlib.Core.Path.{_≡_, refl, sym, ap, ap₂, _∙_}
 use native.Mathlib.Decide.{decLe}
 use native.Mathlib.Omega.{arith}
 use lib.ListN.{length, take}
@@ -10,23 +10,32 @@ use lib.Seq.{take-all, length-take-le}
 use borrow.Author.Tests.{lt-leb}
 use Rattle.lists.proofs.Choice.{no! }
 use Rattle.model.specs.declared.Request.the-variants.{NotRead}
-use Rattle.model.specs.Lines.{readLine}
+use Rattle.model.specs.Lines.{stores, readLine, dataOf}
 use Rattle.model.specs.Session.{Session, requestTurn, lineTurn}
 
 pub long-line : (l : List ℕ) → 600 < length l → readLine l ≡ NotRead
 unfolding readLine
 long-line l h = no! _ NotRead (lt-leb (length l) 600 h)
 
--- what becomes of a long line
-long-turn : (s : Session) (l : List ℕ) → 600 < length l → lineTurn s l ≡ requestTurn s NotRead []
-unfolding requestTurn
-long-turn s l h = rw (long-line l h)
+long-data : (l : List ℕ) → 600 < length l → dataOf l ≡ []
+unfolding dataOf stores
+long-data l h = no! _ [] (rw (long-line l h) refl)
 
-pub turn-cut : (s : Session) (l : List ℕ) → lineTurn s (take 601 l) ≡ lineTurn s l
-turn-cut s l = go (decLe (length l) 601)
+-- so what is alike of all long lines is that of a line's first 601 bytes
+cut-same : {A : Type 0} (F : List ℕ → A) (a : A) → ((k : List ℕ) → 600 < length k → F k ≡ a) → (l : List ℕ) → F (take 601 l) ≡ F l
+cut-same F a long l = go (decLe (length l) 601)
   where
-    go : Dec (length l ≤ 601) → lineTurn s (take 601 l) ≡ lineTurn s l
-    go (yes h) = rw (take-all 601 l h)
+    go : Dec (length l ≤ 601) → F (take 601 l) ≡ F l
+    go (yes h) = ap F (take-all 601 l h)
     go (no h) =
         let n : length (take 601 l) ≡ 601 = length-take-le 601 l (omega arith) in
-        long-turn s (take 601 l) (omega arith) ∙ sym (long-turn s l (omega arith))
+        long (take 601 l) (omega arith) ∙ sym (long l (omega arith))
+
+pub read-cut : (l : List ℕ) → readLine (take 601 l) ≡ readLine l
+read-cut l = cut-same readLine NotRead long-line l
+
+pub data-cut : (l : List ℕ) → dataOf (take 601 l) ≡ dataOf l
+data-cut l = cut-same dataOf [] long-data l
+
+pub turn-cut : (s : Session) (l : List ℕ) → lineTurn s (take 601 l) ≡ lineTurn s l
+turn-cut s l = ap₂ (requestTurn s) (read-cut l) (data-cut l)

@@ -1,4 +1,4 @@
--- One line: read, and answered at once or waiting. Assumes nothing.
+-- One line: read, and answered at once or on the tables. Assumes nothing.
 use Prim.Native.Nat.{ℕ, _+_, _-_, _≤_}
 use mathlib.Core.Bool.{Bool, true, false}
 use mathlib.Core.List.{List, []}
@@ -18,14 +18,21 @@ use Rattle.turns.specs.declared.Answered.{Answered}
 use Rattle.turns.specs.declared.Answered.the-variants.{To, NotYet}
 use Rattle.turns.specs.declared.Host.{Host}
 use Rattle.ready.specs.Usable.{usable}
-use Rattle.turns.specs.Taken.{sessionOf, dataIn, Prepared, withAt, Taken, Waiting, AnsweredTo}
+use Rattle.turns.specs.declared.Here.{Here}
+use Rattle.turns.specs.Taken.{sessionOf, dataIn, Prepared, Taken}
+use Rattle.turns.specs.Told.{Sees, Seeing, hostOf, edited, AnsweredTo}
 use Rattle.turns.proofs.Filled.{prepared-long}
+use Rattle.turns.proofs.Waiting.{answered-by, yet-taken}
+use Rattle.edits.specs.declared.Edit.{Edit}
+use Rattle.views.specs.declared.Asks.{Asks}
+use Rattle.views.specs.declared.View.{View}
+use Rattle.views.specs.Asks.{asksFor}
+use Rattle.views.specs.Views.{viewOf}
+use Rattle.model.specs.declared.State.{State}
 use Rattle.driver.specs.declared.Session.{Session as Standing}
-use Rattle.driver.specs.declared.Step.{Step}
-use Rattle.driver.specs.declared.Step.the-variants as step
-use Rattle.driver.specs.Feed.{ended, replyTo}
+use Rattle.driver.specs.Feed.{ended, replyTo, wholeLine}
 use Rattle.driver.specs.Fed.{feedOf}
-use Rattle.driver.specs.Stepped.{Unanswered, SteppedTo}
+use Rattle.driver.proofs.Cut.{read-cut, data-cut}
 
 -- What the reader leaves of the line l: its request q, and its data over the zeros of a buffer b.
 module _ (l : List ℕ) (q : Request) (b : List ℕ) (e : q ≡ readLine l) (f : b ≡ over (replicate 257 0) 0 (dataOf l)) where
@@ -46,43 +53,46 @@ module _ (l : List ℕ) (q : Request) (b : List ℕ) (e : q ≡ readLine l) (f :
   read-turn : (s : Session) → requestTurn s q (dataIn q b) ≡ lineTurn s l
   read-turn s = rw (read-data, e)
 
-  module _ (h : Host) (m : List ℕ) (n : ℕ) (out : List ℕ) (x : Answered) (m' out' : List ℕ) (a : AnsweredTo h q (dataIn q b) m n out x m' out') where
-    told : (y : Answered) → x ≡ y → AnsweredTo h q (dataIn q b) m n out y m' out'
-    told y e = subst (λ (z : Answered). AnsweredTo h q (dataIn q b) m n out z m' out') e a
+  -- it has been answered on what it saw of the tables s
+  module _ (x : Here) (v : View) (m out : List ℕ) (y : Answered) (m' out' : List ℕ) (a : AnsweredTo x v q (dataIn q b) m out y m' out') (s : State) where
+    -- once the edit is stored
+    pub line-edited : (place : ℕ) (ed : Edit) → y ≡ To place ed → Sees s q (length m) x v
+        → Taken (lineTurn (sessionOf (hostOf x s) m) l) (x .number) out (x .at) (edited x s ed place) m' out'
+    line-edited place ed z w = rw (read-turn (sessionOf (hostOf x s) m)) at (answered-by x v q (dataIn q b) m out y m' out' a place ed z .taken s w)
 
-    -- it is answered
-    pub read-answered : (place : ℕ) → x ≡ To place → Taken (lineTurn (sessionOf h m) l) n out (h .at) (withAt h place) m' out'
-    read-answered place z = rw (read-turn (sessionOf h m)) at (told (To place) z)
+    -- not yet, but on the tables then
+    pub line-changed : (h : Host) (m₁ out₁ : List ℕ) → y ≡ NotYet → Taken (requestTurn (sessionOf (hostOf x s) m') q []) (x .number) out' (x .at) h m₁ out₁
+        → Taken (lineTurn (sessionOf (hostOf x s) m) l) (x .number) out (x .at) h m₁ out₁
+    line-changed h m₁ out₁ z t = rw (read-turn (sessionOf (hostOf x s) m)) at (yet-taken x v q (dataIn q b) m out y m' out' a s h m₁ out₁ z t)
 
-    -- it waits
-    pub read-waits : x ≡ NotYet → Unanswered h l q m out m' out'
-    read-waits z =
-        let t = told NotYet z in
-        record { turn = ap (requestTurn (sessionOf h m) q) (sym (t .1)) ∙ read-turn (sessionOf h m); waiting = t .0; sameScratch = t .2; sameOut = t .3 }
+-- What has been read out of the tables is what the request sees.
+pub sees-read : (s : State) (q : Request) (a : Asks) (room : ℕ) (x : Here) (v : View) → a ≡ asksFor q → v ≡ viewOf s a → x .ready ≡ usable s room → x .frames ≡ s .frames → Sees s q room x v
+sees-read s q a room x v e p r f = record { ready = r; frames = f; view = p ∙ ap (viewOf s) e }
 
--- a line that has been stepped to x
-module _ (h : Host) (l m : List ℕ) (n : ℕ) (out : List ℕ) (x : Step) (m' out' : List ℕ) (a : SteppedTo h l m n out x m' out') where
-  stepped : (y : Step) → x ≡ y → SteppedTo h l m n out y m' out'
-  stepped y e = subst (λ (z : Step). SteppedTo h l m n out z m' out') e a
+pub seeing-read : (s : State) (q : Request) (a : Asks) (room : ℕ) (x : Here) (v : View) → a ≡ asksFor q → v ≡ viewOf s a → x .ready ≡ usable s room → x .frames ≡ s .frames → Seeing q room x v
+seeing-read s q a room x v e p r f = record { tables = s; sees = sees-read s q a room x v e p r f }
 
-  pub step-taken : (place : ℕ) → x ≡ step.To place → Taken (lineTurn (sessionOf h m) l) n out (h .at) (withAt h place) m' out'
-  step-taken place e = stepped (step.To place) e
+-- a line of which no byte is held stands whole in the input
+module _ (h l : List ℕ) (have : ℕ) (e : have ≡ 0) where
+  whole-is : wholeLine h have l ≡ take 601 l
+  whole-is = rw e refl
 
-  pub step-waiting : (q : Request) → x ≡ step.Waits q → Waiting h q
-  step-waiting q e = stepped (step.Waits q) e .waiting
+  pub whole-read : (q : Request) → q ≡ readLine l → q ≡ readLine (wholeLine h have l)
+  whole-read q p = p ∙ sym (read-cut l) ∙ ap readLine (sym whole-is)
 
-  pub step-ready : (q : Request) → x ≡ step.Waits q → h .ready ≡ usable (h .state) (length m) → h .ready ≡ usable (h .state) (length m')
-  step-ready q e u = rw (stepped (step.Waits q) e .sameScratch) u
+  pub whole-data : (b b₀ : List ℕ) → b ≡ over b₀ 0 (dataOf l) → b ≡ over b₀ 0 (dataOf (wholeLine h have l))
+  whole-data b b₀ p = p ∙ ap (over b₀ 0) (sym (data-cut l) ∙ ap dataOf (sym whole-is))
 
-  pub step-room : (q : Request) (place : ℕ) → x ≡ step.Waits q → place + 600 ≤ length out → place + 600 ≤ length out'
-  step-room q place e u = rw (stepped (step.Waits q) e .sameOut) u
+-- else its rest was put behind what is held
+module _ (h h' l : List ℕ) (have n : ℕ) (e : take n h' ≡ wholeLine h have l) where
+  held-is : take (n - 0) (drop 0 h') ≡ wholeLine h have l
+  held-is = ap (λ k. take k h') (sub-zero n) ∙ e
 
-  -- it waited, and was answered then
-  pub step-changed : (q : Request) (h₁ : Host) (m₁ out₁ : List ℕ) → x ≡ step.Waits q → Taken (requestTurn (sessionOf h m') q []) n out' (h .at) h₁ m₁ out₁
-      → Taken (lineTurn (sessionOf h m) l) n out (h .at) h₁ m₁ out₁
-  step-changed q h₁ m₁ out₁ e t =
-      let w = stepped (step.Waits q) e in
-      rw (w .turn) at (rw (w .sameScratch, w .sameOut) at t)
+  pub held-read : (q : Request) → q ≡ readLine (take (n - 0) (drop 0 h')) → q ≡ readLine (wholeLine h have l)
+  held-read q p = p ∙ ap readLine held-is
+
+  pub held-data : (b b₀ : List ℕ) → b ≡ over b₀ 0 (dataOf (take (n - 0) (drop 0 h'))) → b ≡ over b₀ 0 (dataOf (wholeLine h have l))
+  held-data b b₀ p = p ∙ ap (λ k. over b₀ 0 (dataOf k)) held-is
 
 -- the last line
 module _ (s : Standing) (held m m₁ out out₁ : List ℕ) (h : Host)
@@ -90,29 +100,8 @@ module _ (s : Standing) (held m m₁ out out₁ : List ℕ) (h : Host)
   last-turn : Taken (lineTurn (feedOf s held m .session) (take (s .have) held)) (s .line) out 0 h m₁ out₁
   last-turn = rw (sub-zero (s .have)) at t
 
-  last-said : Wrote out 0 (replyTo (feedOf s held m)) out₁ (h .at)
+  pub last-said : Wrote out 0 (replyTo (feedOf s held m)) out₁ (h .at)
   last-said = last-turn .reply
 
-  last-scratch : m₁ ≡ ended (feedOf s held m) .session .scratch
+  pub last-scratch : m₁ ≡ ended (feedOf s held m) .session .scratch
   last-scratch = ap (λ (k : Session). k .scratch) (last-turn .session)
-
--- in the two ways that it may be answered
-abbrev hostOf : Standing → (ready : Bool) → Host
-hostOf s r = record { begun = s .begun; ready = r; at = 0; state = s .state }
-
-module _ (s : Standing) (r : Bool) (held m m₁ out out₁ : List ℕ) (x : Step)
-    (a : SteppedTo (hostOf s r) (take (s .have - 0) (drop 0 held)) m (s .line) out x m₁ out₁) where
-  pub last-ready : (q : Request) → x ≡ step.Waits q → r ≡ usable (s .state) (length m) → r ≡ usable (s .state) (length m₁)
-  last-ready q e u = step-ready (hostOf s r) (take (s .have - 0) held) m (s .line) out x m₁ out₁ a q e u
-
-  pub last-answered : (place : ℕ) → x ≡ step.To place
-      → Wrote out 0 (replyTo (feedOf s held m)) out₁ place × (m₁ ≡ ended (feedOf s held m) .session .scratch)
-  last-answered place e =
-      let t = step-taken (hostOf s r) (take (s .have - 0) held) m (s .line) out x m₁ out₁ a place e in
-      (last-said s held m m₁ out out₁ _ t, last-scratch s held m m₁ out out₁ _ t)
-
-  pub last-changed : (q : Request) (h₁ : Host) (m₂ out₂ : List ℕ) → x ≡ step.Waits q → Taken (requestTurn (sessionOf (hostOf s r) m₁) q []) (s .line) out₁ 0 h₁ m₂ out₂
-      → Wrote out 0 (replyTo (feedOf s held m)) out₂ (h₁ .at) × (m₂ ≡ ended (feedOf s held m) .session .scratch)
-  last-changed q h₁ m₂ out₂ e d =
-      let t = step-changed (hostOf s r) (take (s .have - 0) held) m (s .line) out x m₁ out₁ a q h₁ m₂ out₂ e d in
-      (last-said s held m m₂ out out₂ h₁ t, last-scratch s held m m₂ out out₂ h₁ t)

@@ -60,3 +60,7 @@ joined (p ∷ ps) = p ++ joined ps
 -- where the line ends: the place of the first newline of l from i on, and the length of l where there is none
 abbrev pub newlineFrom : List ℕ → ℕ → ℕ
 newlineFrom l i = byteFrom 10 l i
+
+-- a line whose first bytes are held and whose rest has come, as far as it matters
+abbrev pub wholeLine : (held : List ℕ) → (have : ℕ) → (rest : List ℕ) → List ℕ
+wholeLine held have rest = take 601 (take have held ++ rest)

@@ -2,4 +2,3 @@
 pub mod Feed
 pub mod Served
 pub mod Fed
-pub mod Stepped

@@ -4,14 +4,17 @@ ghost use Prim.Native.Nat.{_+_, _≤_};
 ghost use mathlib.Core.Path.{_≡_};
 ghost use lib.ListN.{length};
 ghost use Rattle.digits.specs.Wrote.{Wrote};
-ghost use Rattle.ready.specs.Usable.{usable};
-ghost use Rattle.driver.specs.Feed.{ended, replyTo, newlineFrom};
+ghost use Rattle.lists.specs.Bytes.{over};
+ghost use Rattle.model.specs.Lines.{readLine, dataOf};
+ghost use Rattle.driver.specs.Feed.{ended, replyTo, newlineFrom, wholeLine};
 ghost use Rattle.driver.specs.Fed.{feedOf, opened, FedTo, FinishedTo};
-ghost use Rattle.driver.specs.Stepped.{SteppedTo};
+use edits::Edit;
 use model::Request;
 use model::State;
 use turns::Answered;
+use turns::Here;
 use turns::Host;
+use views::View;
 
 // What stands between two pieces of input: whether a FRAMES has been done, the number of the next line, how many bytes of it
 // are held, and the tables.
@@ -54,44 +57,37 @@ fn line_end(input: &[u8], from: usize) -> usize
     moves::find(input, from, 10)
 }
 
-fn stand(host: Host, line: u64, have: usize, used: usize) -> Fed
-    ensures { λ r. ⌜ r ≡ record { session = record { begun = host .begun; line = line; have = have; state = host .state }; used = used; written = host .at } ⌝ }
+fn stand(begun: bool, state: State, line: u64, have: usize, used: usize, written: usize) -> Fed
+    ensures { λ r. ⌜ r ≡ record { session = record { begun = begun; line = line; have = have; state = state }; used = used; written = written } ⌝ }
 {
-    let state = host.state;
     Fed {
         session: Session {
-            begun: host.begun,
+            begun: begun,
             line: line,
             have: have,
             state: state,
         },
         used: used,
-        written: host.at,
+        written: written,
     }
 }
 
-// What became of a line: it is answered, and its reply ends at a place; or its request may change the tables, and waits. So the
-// tables are moved for such a line alone.
-enum Step {
-    To { place: usize },
-    Waits { request: Request },
-}
-
-// One line, without its newline: read, and answered where that leaves the tables.
-fn take_line(host: Host, line: &[u8], scratch: &mut [u8], number: u64, out: &mut [u8]) -> Step
-    requires { ⌜ (host .ready ≡ usable (host .state) (length (now scratch))) × (host .at + 600 ≤ length (now out)) ⌝ }
-    ensures { λ r. ⌜ SteppedTo host (now (line .entry)) (now (scratch .entry)) number (now (out .entry)) r (now (scratch .exit)) (now (out .exit)) ⌝ }
+// The request of a line whose first bytes may be held: a line that lies whole in the input is read where it stands.
+fn read_request(held: &mut [u8], have: usize, rest: &[u8], buffer: &mut [u8; 257]) -> Request
+    requires { ⌜ (length (now held) ≡ 601) × (have ≤ 601) ⌝ }
+    ensures { λ r. ⌜ r ≡ readLine (wholeLine (now (held .entry)) have (now (rest .entry))) ⌝ }
+    ensures { λ _. ⌜ now (buffer .exit) ≡ over (now (buffer .entry)) 0 (dataOf (wholeLine (now (held .entry)) have (now (rest .entry)))) ⌝ }
 {
-    let mut buffer = [0u8; 257];
-    let request = lines::read_line(line, &mut buffer);
-    let answered = turns::answer(host, scratch, number, request, &mut buffer, out);
-    match answered {
-        Answered::To { place } => Step::To { place: place },
-        Answered::NotYet => Step::Waits { request: request },
+    if have == 0 {
+        return lines::read_line(rest, buffer);
     }
+    let n = held::hold(held, have, rest);
+    lines::read_line(&held[0..n], buffer)
 }
 
-// A piece of input, where no more bytes are said to be held than there is room for.
+// A piece of input, where no more bytes are said to be held than there is room for. The loop owns the tables: it reads out
+// the elements that a request looks at, and stores the one that it changes, so that tables are moved only for a request that
+// asks for whole ones.
 fn feed_lines(
     session: Session,
     held: &mut [u8],
@@ -102,40 +98,112 @@ fn feed_lines(
     requires { ⌜ (length (now held) ≡ 601) × (session .have ≤ 601) ⌝ }
     ensures { λ r. ⌜ FedTo (feedOf session (now (held .entry)) (now (scratch .entry))) (now (input .entry)) (now (out .entry)) (r .used) (r .written) (feedOf (r .session) (now (held .exit)) (now (scratch .exit))) (now (out .exit)) ⌝ }
 {
-    let state = session.state;
-    let mut host = Host {
-        begun: session.begun,
-        ready: ready::is_usable(state, scratch.len()),
-        at: 0,
-        state: state,
-    };
+    let mut state = session.state;
+    let mut begun = session.begun;
+    let mut ready = ready::is_usable(state, scratch.len());
+    let mut at: usize = 0;
     let mut line = session.line;
     let mut have = session.have;
     let mut i: usize = 0;
     while i < input.len() {
-        if out.len() - host.at < 600 {
-            return stand(host, line, have, i);
+        if out.len() - at < 600 {
+            return stand(begun, state, line, have, i, at);
         }
         let e = line_end(input, i);
-        let n = held::hold(held, have, &input[i..e]);
         if e == input.len() {
-            return stand(host, line, n, e);
+            let n = held::hold(held, have, &input[i..e]);
+            return stand(begun, state, line, n, e, at);
         }
-        let number = line;
+        let next = e + 1;
+        let mut buffer = [0u8; 257];
+        let request = read_request(held, have, &input[i..e], &mut buffer);
+        let asks = views::asked(request);
+        let row = lookup::row(asks.caller);
+        let guest = state.guests[row];
+        let cpu = state.cpus[row];
+        let token = views::token_seen(asks, cpu);
+        let entry = state.entries[translation::entry_place(row, token)];
+        let mut search = views::search_for(asks, token, entry);
+        while search.looking {
+            let slot = search.at as usize;
+            let x = state.spaces[slot];
+            search = views::advance(search, x);
+        }
+        let u = lookup::slot_row(search.at as usize);
+        let space = state.spaces[u];
+        let column = lookup::row(asks.other);
+        let other = state.guests[column];
+        let permit = state.permits[u * 8 + column];
+        let v = View {
+            place: lookup::place_of(guest, asks.caller),
+            guest: guest,
+            other: lookup::place_of(other, asks.other),
+            token: token,
+            entry: entry,
+            slot: search.at,
+            space: space,
+            permit: permit,
+        };
+        let here = Here {
+            begun: begun,
+            ready: ready,
+            frames: state.frames,
+            at: at,
+            number: line,
+        };
+        let answered = turns::answer(here, v, scratch, request, &mut buffer, out);
         line = std::num::wrapping_add_u64(line, 1);
         have = 0;
-        i = e + 1;
-        let step = take_line(host, &held[0..n], scratch, number, out);
-        match step {
-            Step::To { place } => {
-                host.at = place;
+        i = next;
+        match answered {
+            Answered::To { place, edit } => {
+                at = place;
+                match edit {
+                    Edit::Nothing => {}
+                    Edit::Permit {
+                        place: k,
+                        permit: p,
+                    } => {
+                        state.permits[k as usize] = p;
+                    }
+                    Edit::Entry { place: k, entry: n } => {
+                        state.entries[k as usize] = n;
+                    }
+                    Edit::Register {
+                        cpu: k,
+                        register,
+                        value,
+                    } => {
+                        let c = k as usize;
+                        let mut changed = state.cpus[c];
+                        changed.registers[register as usize] = value;
+                        state.cpus[c] = changed;
+                    }
+                    Edit::Mode { cpu: k, mode } => {
+                        let c = k as usize;
+                        let mut changed = state.cpus[c];
+                        changed.mode = mode;
+                        state.cpus[c] = changed;
+                    }
+                }
             }
-            Step::Waits { request } => {
-                host = turns::change(host, scratch, number, request, out);
+            Answered::NotYet => {
+                let host = Host {
+                    begun: begun,
+                    ready: ready,
+                    at: at,
+                    state: state,
+                };
+                let after = turns::change(host, scratch, here.number, request, out);
+                begun = after.begun;
+                ready = after.ready;
+                at = after.at;
+                let tables = after.state;
+                state = tables;
             }
         }
     }
-    stand(host, line, have, i)
+    stand(begun, state, line, have, i, at)
 }
 
 // A piece of input, as far as there is room for replies.
@@ -158,19 +226,28 @@ fn last_line(session: Session, held: &[u8], scratch: &mut [u8], out: &mut [u8]) 
     ensures { λ r. ⌜ (Wrote (now (out .entry)) 0 (replyTo (feedOf session (now (held .entry)) (now (scratch .entry)))) (now (out .exit)) r) × (now (scratch .exit) ≡ ended (feedOf session (now (held .entry)) (now (scratch .entry))) .session .scratch) ⌝ }
 {
     let state = session.state;
-    let host = Host {
+    let have = session.have;
+    let mut buffer = [0u8; 257];
+    let request = lines::read_line(&held[0..have], &mut buffer);
+    let v = views::seen_in(state, views::asked(request));
+    let here = Here {
         begun: session.begun,
         ready: ready::is_usable(state, scratch.len()),
+        frames: state.frames,
         at: 0,
-        state: state,
+        number: session.line,
     };
-    let have = session.have;
-    let number = session.line;
-    let step = take_line(host, &held[0..have], scratch, number, out);
-    match step {
-        Step::To { place } => place,
-        Step::Waits { request } => {
-            let after = turns::change(host, scratch, number, request, out);
+    let answered = turns::answer(here, v, scratch, request, &mut buffer, out);
+    match answered {
+        Answered::To { place, edit: _ } => place,
+        Answered::NotYet => {
+            let host = Host {
+                begun: here.begun,
+                ready: here.ready,
+                at: 0,
+                state: state,
+            };
+            let after = turns::change(host, scratch, here.number, request, out);
             after.at
         }
     }
