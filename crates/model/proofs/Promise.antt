@@ -13,9 +13,13 @@ use Rattle.model.specs.Calls.{judge, ready, decide}
 use Rattle.model.specs.Decision.{after}
 use Rattle.model.specs.Leaves.{scratchJudged, bufferJudged}
 use Rattle.model.specs.Promise.{Promise, stepOf}
-use Rattle.model.specs.Step.{step, scratchAfter, bufferAfter}
+use Rattle.model.specs.Step.{Outcome, step, scratchAfter, bufferAfter}
 use Rattle.model.proofs.Refusals.{unready}
 use Rattle.model.proofs.Rules.{check-yes}
+
+-- a promise leaves nothing free: all that a call hands back and leaves is the outcome
+pub promise-whole : (o p : Outcome) → Promise o (p .answer) (p .machine .tables) (p .machine .scratch) (p .buffer) → p ≡ o
+promise-whole o p q = λ i. record { answer = q .answer i; machine = record { tables = q .tables i; scratch = q .scratch i }; buffer = q .buffer i }
 
 module _ (s : State) (k : Call) (m b : List ℕ) where
   -- check 1 refuses
@@ -23,7 +27,7 @@ module _ (s : State) (k : Call) (m b : List ℕ) where
   unfolding step scratchAfter bufferAfter
   promise-unready e =
       let q = unready s (length m) k (length b) e in
-      rw q (record { number = refl; value = refl; tables = refl; scratch = refl; buffer = refl })
+      rw q (record { number = refl; value = refl; answer = refl; tables = refl; scratch = refl; buffer = refl })
 
   -- check 1 passes
   pub passed : ready s (length m) ≡ true → decide s (length m) k (length b) ≡ judge s k (length b)
@@ -34,4 +38,4 @@ module _ (s : State) (k : Call) (m b : List ℕ) where
       → m' ≡ scratchJudged s k m b → b' ≡ bufferJudged s k m b → Promise (stepOf s m k b) a t m' b'
   unfolding step scratchJudged bufferJudged
   promise-ready a t m' b' e pa pt pm pb =
-      rw (passed e) (record { number = ap number pa; value = ap value pa; tables = pt; scratch = pm; buffer = pb })
+      rw (passed e) (record { number = ap number pa; value = ap value pa; answer = pa; tables = pt; scratch = pm; buffer = pb })
