@@ -139,7 +139,7 @@ varied = (
 )
 
 -- so it speaks of these two runs
-pub applied : AllSameOutside 3 (holding zeros) (holding altered) first second
+pub applied : AllSameOutside 3 (holding zeros) first (run (holding zeros) first) (run (holding altered) second)
 unfolding start
 applied = isolation start zeros altered 2 first second ready-start live-shared outside varied
 

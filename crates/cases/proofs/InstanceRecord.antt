@@ -4,7 +4,7 @@
 use Prim.Native.Nat.{ℕ}
 use mathlib.Core.List.{List, [], _∷_}
 use mathlib.Core.Logic.{inr}
-use mathlib.Core.Path.{_≡_, refl, ap, _∙_}
+use mathlib.Core.Path.{_≡_, refl, sym, ap, _∙_}
 use native.Mathlib.Omega.{arith}
 use lib.ListN.{length, length-replicate}
 use Rattle.model.specs.declared.Operation.the-variants.{Isolate}
@@ -14,12 +14,14 @@ use Rattle.model.specs.Step.{Machine, Ready, Issue, Outcome, afterRun}
 use Rattle.model.proofs.Fresh.{sound-empty}
 use Rattle.isolation.specs.Ground.{Ground}
 use Rattle.isolation.specs.History.{Event, recorded}
+use Rattle.isolation.specs.Kept.{leftBy}
 use Rattle.isolation.specs.Records.{done, session, fetch}
 use Rattle.cases.specs.Instance.{blank, fresh, lines, isolating}
 use Rattle.isolation.specs.Reaches.{Reaches}
 use Rattle.isolation.proofs.Grounded.{grounded}
 use Rattle.cases.proofs.Decisions.{decisions}
-use Rattle.cases.proofs.InstanceRun.{runWith, step-with, run-with, lastOf, after-run, told, recorded-run}
+use Rattle.cases.proofs.InstanceRun.{runWith, step-with, run-with, told, recorded-run}
+use Rattle.isolation.proofs.Kept.{left-run}
 use Rattle.isolation.proofs.RecordKept.{ready-run}
 use Rattle.isolation.proofs.Records.{none-isolated}
 
@@ -49,18 +51,18 @@ isolating-recorded = record-is isolating _ (computed .1)
 
 -- what the lines leave
 after : Machine
-after = lastOf fresh (runWith 32768 fresh lines)
+after = leftBy fresh (runWith 32768 fresh lines)
 
 is-after : afterRun fresh lines ≡ after
 unfolding after
-is-after = after-run lines fresh ∙ ap (lastOf fresh) (run-with 32768 lines fresh long)
+is-after = sym (left-run fresh lines) ∙ ap (leftBy fresh) (run-with 32768 lines fresh long)
 
 room : length (after .scratch) ≡ 32768
-unfolding after decisions lastOf runWith
+unfolding after decisions leftBy runWith
 room = (rw is-after at (ready-run lines fresh ready-fresh)) .room
 
 pub session-reaches : Reaches (afterRun fresh lines) (fetch 2) 3
-unfolding after decisions lastOf runWith
+unfolding after decisions leftBy runWith
 session-reaches = rw is-after (record {
   done = ap (λ (o : Outcome). number (o .answer)) (step-with 32768 after (fetch 2) room);
   register = 5;

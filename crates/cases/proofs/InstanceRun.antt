@@ -7,7 +7,7 @@ use mathlib.Core.Path.{_≡_, refl, ap, ap₂, _∙_}
 use lib.ListN.{length}
 use Rattle.model.specs.Answers.{number, value}
 use Rattle.model.specs.Calls.{decide}
-use Rattle.model.specs.Step.{Machine, Issue, Outcome, decision, outcome, step, run, afterRun}
+use Rattle.model.specs.Step.{Machine, Issue, Outcome, decision, outcome, step, run}
 use Rattle.model.proofs.Sound.{length-scratchAfter}
 use Rattle.isolation.specs.History.{Event, recorded}
 
@@ -28,16 +28,7 @@ run-with n (i ∷ is) m e =
     (run-with n is (step m i .machine) (length-scratchAfter _ (decision m i .effect) (m .scratch) (i .buffer) ∙ e)
     ∙ ap (λ (o : Outcome). runWith n (o .machine) is) (step-with n m i e))
 
--- the machine that a run leaves, and its record, by what its calls returned
-unfoldable pub lastOf : Machine → List Outcome → Machine
-lastOf m [] = m
-lastOf m (o ∷ os) = lastOf (o .machine) os
-
-pub after-run : (is : List Issue) (m : Machine) → afterRun m is ≡ lastOf m (run m is)
-unfolding afterRun run lastOf
-after-run [] m = refl
-after-run (i ∷ is) m = after-run is (step m i .machine)
-
+-- the record of a run, by what its calls returned
 unfoldable pub told : List Event → List Issue → List Outcome → List Event
 told h [] os = h
 told h (i ∷ is) [] = h

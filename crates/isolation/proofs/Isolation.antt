@@ -10,7 +10,7 @@ use Rattle.lists.proofs.Bytes.{get-agree}
 use Rattle.model.specs.declared.State.{State}
 use Rattle.model.specs.Frames.{layout, placeOf, sizeOf, bytesOf}
 use Rattle.model.specs.Sound.{Live, Sound}
-use Rattle.model.specs.Step.{Machine, Issue, step}
+use Rattle.model.specs.Step.{Machine, Issue, step, run}
 use Rattle.model.specs.Tables.{spaceAt}
 use Rattle.model.proofs.SpaceBytes.{apart}
 use Rattle.isolation.specs.TwoRuns.{EqualOutside, Alike, Turn, Varied, SameCall, SameRuns, OutsideSpace, StoresVaried, SameOutside, AllSameOutside, Isolation}
@@ -48,22 +48,23 @@ turns-varied x m (i ∷ is) (j ∷ js) v = (
   turns-varied x (step m i .machine) is js (v .1),
 )
 
-same-outside : (x : ℕ) (m₁ m₂ : Machine) (i j : Issue) → SameCall (just x) m₁ m₂ i j → SameOutside x m₁ m₂ i j
+same-outside : (x : ℕ) (m₁ m₂ : Machine) (i j : Issue) → SameCall (just x) m₁ m₂ i j → SameOutside x m₁ i (step m₁ i) (step m₂ j)
 same-outside x m₁ m₂ i j c = record {
-  answer = c .answer;
+  number = c .number;
   value = c .value;
+  answer = c .answer;
   tables = c .alike .tables;
   bytes = λ u l ne. c .alike .bytes u l (ne-eqb x _ (λ e. ne (sym e)));
   buffer = λ away. c .buffer (λ r. away (rw (← (eqb-true x (r .id) (r .inside))) at (r .reaches)));
 }
 
-all-same : (x : ℕ) (first second : List Issue) (m₁ m₂ m : Machine) → StoresVaried x m first second → SameRuns m₁ m₂ (turns x first second) → AllSameOutside x m₁ m₂ first second
-unfolding turns SameRuns AllSameOutside StoresVaried
-all-same x [] [] m₁ m₂ m v r = tt
-all-same x [] (j ∷ js) m₁ m₂ m v r = v
-all-same x (i ∷ is) [] m₁ m₂ m v r = v
-all-same x (i ∷ is) (j ∷ js) m₁ m₂ m v r =
-    (same-outside x m₁ m₂ i j (r .0), all-same x is js (step m₁ i .machine) (step m₂ j .machine) (step m i .machine) (v .1) (r .1))
+all-same : (x : ℕ) (first second : List Issue) (m₁ m₂ : Machine) → StoresVaried x m₁ first second → SameRuns m₁ m₂ (turns x first second)
+    → AllSameOutside x m₁ first (run m₁ first) (run m₂ second)
+unfolding turns SameRuns AllSameOutside StoresVaried run
+all-same x [] [] m₁ m₂ v r = tt
+all-same x [] (j ∷ js) m₁ m₂ v r = v
+all-same x (i ∷ is) [] m₁ m₂ v r = v
+all-same x (i ∷ is) (j ∷ js) m₁ m₂ v r = (same-outside x m₁ m₂ i j (r .0), all-same x is js (step m₁ i .machine) (step m₂ j .machine) (v .1) (r .1))
 
 pub isolation : Isolation
 isolation s scratch₁ scratch₂ u first second ready live outside varied =
@@ -71,4 +72,4 @@ isolation s scratch₁ scratch₂ u first second ready live outside varied =
     let m₁ : Machine = record { tables = s; scratch = scratch₁ } in
     let m₂ : Machine = record { tables = s; scratch = scratch₂ } in
     let alike : Alike (just x) m₁ m₂ = record { tables = refl; room = outside .room; bytes = outside-equal s (ready .sound) u scratch₁ scratch₂ live outside } in
-    all-same x first second m₁ m₂ m₁ varied (two-runs (just x) (turns x first second) m₁ m₂ ready alike (turns-varied x m₁ first second varied))
+    all-same x first second m₁ m₂ varied (two-runs (just x) (turns x first second) m₁ m₂ ready alike (turns-varied x m₁ first second varied))

@@ -12,4 +12,5 @@ pub mod RecordTells
 pub mod Rising
 pub mod Grounded
 pub mod Records
+pub mod Handed
 pub mod Kept

@@ -128,8 +128,9 @@ module _ (X : ℕ → Bool) (m₁ m₂ : Machine) (ready : Ready m₁) (alike : 
       let room₁ : length (m₁ .scratch) ≡ after (m₁ .tables) d .frames * 4096 = ready .room ∙ ap (λ f. f * 4096) (sym (law .frames)) in
       let room₂ : length (m₂ .scratch) ≡ after (m₁ .tables) d .frames * 4096 = sym (alike .room) ∙ room₁ in
       record {
-        answer = ap (λ (x : Decision). number (x .answer)) same-decision;
+        number = ap (λ (x : Decision). number (x .answer)) same-decision;
         value = ap (λ (x : Decision). value (x .answer)) same-decision;
+        answer = ap (λ (x : Decision). x .answer) same-decision;
         alike = record {
           tables = ap₂ (λ (x : State) (y : Decision). after x y) (alike .tables) same-decision;
           room = length-scratchAfter _ (decision m₁ i .effect) (m₁ .scratch) (i .buffer) ∙ alike .room ∙ sym (length-scratchAfter _ (decision m₂ j .effect) (m₂ .scratch) (j .buffer));

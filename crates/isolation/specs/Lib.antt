@@ -12,3 +12,5 @@ pub mod Agrees
 -- Records with and without a ground
 pub mod Records
 pub mod Kept
+-- What a guest is handed
+pub mod Handed

@@ -12,7 +12,7 @@ use Rattle.model.specs.Answers.{number, value}
 use Rattle.model.specs.Classes.{isStore}
 use Rattle.model.specs.Frames.{layout, placeOf, sizeOf, bytesOf}
 use Rattle.model.specs.Sound.{Live}
-use Rattle.model.specs.Step.{Machine, Ready, Issue, step}
+use Rattle.model.specs.Step.{Machine, Ready, Issue, Outcome, step, run}
 use Rattle.model.specs.Tables.{spaceAt}
 use Rattle.isolation.specs.Reaches.{Reaches, ReachesIn}
 
@@ -46,10 +46,12 @@ Varied X m [] = Unit {0}
 Varied X m (t ∷ ts) = Grows X (t .changed) × MayDiffer (t .changed) m (t .first) (t .second) × Varied (t .changed) (step m (t .first) .machine) ts
 
 -- "In both runs a call returns the same; equal after it are the tables, the bytes of each live space but that one, and a
--- fetch's buffer unless that fetch reaches that space."
+-- fetch's buffer unless that fetch reaches that space." A call returns its whole answer: the number and value that the paper
+-- speaks of, and of a refused argument its kind and place.
 pub record SameCall (X : ℕ → Bool) (m₁ m₂ : Machine) (i j : Issue) : Type 0 where
-  pub answer : number (step m₁ i .answer) ≡ number (step m₂ j .answer)
+  pub number : number (step m₁ i .answer) ≡ number (step m₂ j .answer)
   pub value : value (step m₁ i .answer) ≡ value (step m₂ j .answer)
+  pub answer : step m₁ i .answer ≡ step m₂ j .answer
   pub alike : Alike X (step m₁ i .machine) (step m₂ j .machine)
   pub buffer : (ReachesIn X m₁ i → ⊥) → step m₁ i .buffer ≡ step m₂ j .buffer
 
@@ -84,21 +86,28 @@ StoresVaried x m [] (j ∷ js) = ⊥
 StoresVaried x m (i ∷ is) [] = ⊥
 StoresVaried x m (i ∷ is) (j ∷ js) = StoreMayDiffer x m i j × StoresVaried x (step m i .machine) is js
 
--- after each call the same answer and value, equal tables, equal bytes in each live space but that one, and an equal buffer
--- unless the call reaches that space
-pub record SameOutside (id : ℕ) (m₁ m₂ : Machine) (i j : Issue) : Type 0 where
-  pub answer : number (step m₁ i .answer) ≡ number (step m₂ j .answer)
-  pub value : value (step m₁ i .answer) ≡ value (step m₂ j .answer)
-  pub tables : step m₁ i .machine .tables ≡ step m₂ j .machine .tables
-  pub bytes : (u : ℕ) → Live (step m₁ i .machine .tables .spaces) u → spaceAt (step m₁ i .machine .tables .spaces) u .id ≢ id
-      → bytesOf (step m₁ i .machine .tables) u (step m₁ i .machine .scratch) ≡ bytesOf (step m₁ i .machine .tables) u (step m₂ j .machine .scratch)
-  pub buffer : (Reaches m₁ i id → ⊥) → step m₁ i .buffer ≡ step m₂ j .buffer
+-- every live space but one holds equal bytes
+abbrev pub EqualBut : (id : ℕ) → State → (scratch₁ scratch₂ : List ℕ) → Type 0
+EqualBut x s m₁ m₂ = (u : ℕ) → Live (s .spaces) u → spaceAt (s .spaces) u .id ≢ x → bytesOf s u m₁ ≡ bytesOf s u m₂
 
-unfoldable pub AllSameOutside : (id : ℕ) → Machine → Machine → (first second : List Issue) → Type 0
-AllSameOutside x m₁ m₂ [] [] = Unit {0}
-AllSameOutside x m₁ m₂ [] (j ∷ js) = ⊥
-AllSameOutside x m₁ m₂ (i ∷ is) [] = ⊥
-AllSameOutside x m₁ m₂ (i ∷ is) (j ∷ js) = SameOutside x m₁ m₂ i j × AllSameOutside x (step m₁ i .machine) (step m₂ j .machine) is js
+-- Two outcomes of one call: the same answer, equal tables, equal bytes in each live space but that one, and an equal buffer
+-- unless the call reaches that space. `m` and `i` are the first run's machine before the call, and its call.
+pub record SameOutside (id : ℕ) (m : Machine) (i : Issue) (o₁ o₂ : Outcome) : Type 0 where
+  pub number : number (o₁ .answer) ≡ number (o₂ .answer)
+  pub value : value (o₁ .answer) ≡ value (o₂ .answer)
+  pub answer : o₁ .answer ≡ o₂ .answer
+  pub tables : o₁ .machine .tables ≡ o₂ .machine .tables
+  pub bytes : EqualBut id (o₁ .machine .tables) (o₁ .machine .scratch) (o₂ .machine .scratch)
+  pub buffer : (Reaches m i id → ⊥) → o₁ .buffer ≡ o₂ .buffer
+
+-- at every call of the list, by the outcomes of its calls in both runs
+unfoldable pub AllSameOutside : (id : ℕ) → Machine → List Issue → (first second : List Outcome) → Type 0
+AllSameOutside x m [] [] [] = Unit {0}
+AllSameOutside x m [] [] (p ∷ ps) = ⊥
+AllSameOutside x m [] (o ∷ os) ps = ⊥
+AllSameOutside x m (i ∷ is) [] ps = ⊥
+AllSameOutside x m (i ∷ is) (o ∷ os) [] = ⊥
+AllSameOutside x m (i ∷ is) (o ∷ os) (p ∷ ps) = SameOutside x m i o p × AllSameOutside x (o .machine) is os ps
 
 abbrev pub Isolation : Type 0
 Isolation =
@@ -107,4 +116,5 @@ Isolation =
     → Live (s .spaces) u
     → OutsideSpace s u scratch₁ scratch₂
     → StoresVaried (spaceAt (s .spaces) u .id) (record { tables = s; scratch = scratch₁ }) first second
-    → AllSameOutside (spaceAt (s .spaces) u .id) (record { tables = s; scratch = scratch₁ }) (record { tables = s; scratch = scratch₂ }) first second
+    → AllSameOutside (spaceAt (s .spaces) u .id) (record { tables = s; scratch = scratch₁ }) first
+    (run (record { tables = s; scratch = scratch₁ }) first) (run (record { tables = s; scratch = scratch₂ }) second)
