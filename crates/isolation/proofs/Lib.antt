@@ -8,9 +8,11 @@ pub mod RecordMade
 pub mod RecordWithdrawn
 pub mod RecordKept
 pub mod Recall
+pub mod Did
 pub mod RecordTells
 pub mod Rising
 pub mod Grounded
+pub mod NoGround
 pub mod Records
 pub mod Handed
 pub mod Kept

@@ -19,14 +19,8 @@ use Rattle.model.specs.Changes.{allows, raised}
 use Rattle.isolation.specs.Ground.{Never, Did, Owns, AtLeast, GivesUp, Withdraws, PermittedBefore}
 use Rattle.isolation.specs.History.{Event, Deed, nothing, enrolled, created, destroyed, permitted, isolated, added, removed, loaded, switched, reset, deed}
 use Rattle.isolation.specs.Recall.{Given, space, misformed, unassigned, withdrawn, unless, ownerBy, ownerIn, homeBy, homeIn, grantBy, grantIn, tokenBy, tokenIn}
+use Rattle.isolation.proofs.Did.{did-now, did-more}
 use Rattle.isolation.proofs.Record.{Memory, memory, NewTo, Rightful, Proper, same-pair, pair-same}
-
--- a deed of the latest call, and of an earlier one
-pub did-now : (e : Event) (h : List Event) (d : Deed) → deed e ≡ d → Did (e ∷ h) d
-did-now e h d q = record { later = []; event = e; earlier = h; split = refl; is = q }
-
-pub did-more : (e : Event) (h : List Event) (d : Deed) → Did h d → Did (e ∷ h) d
-did-more e h d p = record { later = e ∷ p .later; event = p .event; earlier = p .earlier; split = ap (λ (x : List Event). e ∷ x) (p .split); is = p .is }
 
 -- Owners: a space has the owner that it had, or a deed gave it.
 abbrev pub Gave : Deed → (guest id : ℕ) → Type 0

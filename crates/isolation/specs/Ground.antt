@@ -22,7 +22,8 @@ abbrev pub Never : (Deed → Type 0) → List Event → Type 0
 Never P [] = Unit {0}
 Never P (e ∷ h) = (P (deed e) → ⊥) × Never P h
 
--- a call of the record did this deed: what came later, and what earlier
+-- A call of the record did this deed. A record has its latest call first, as it grows at its head: so what came later stands in
+-- front of the call, and what came earlier behind it.
 pub record Did (h : List Event) (d : Deed) : Type 0 where
   pub later : List Event
   pub event : Event
@@ -49,13 +50,14 @@ abbrev pub Withdraws : (owner id : ℕ) → Deed → Type 0
 Withdraws o x d = ((g : ℕ) × (d ≡ isolated g x)) ⊎ (d ≡ reset o)
 
 -- "a PERMIT of that space to it by the owner, with at least the ADD's right, came before that ADD, with no ISOLATE of that
--- space and no RESET by the owner since that PERMIT". `add` is what was recorded since the ADD, `earlier` what before it.
-pub record PermittedBefore (add earlier : List Event) (owner guest id : ℕ) (asked : Right) : Type 0 where
+-- space and no RESET by the owner since that PERMIT". `sinceAdd` is what was recorded since the ADD, `beforeAdd` what before it;
+-- so "since that PERMIT" is from the PERMIT to the ADD (`since`) and from the ADD on (`since-add`).
+pub record PermittedBefore (sinceAdd beforeAdd : List Event) (owner guest id : ℕ) (asked : Right) : Type 0 where
   pub right : Right
-  pub did : Did earlier (permitted owner id guest right)
+  pub did : Did beforeAdd (permitted owner id guest right)
   pub enough : AtLeast right asked
   pub since : Never (Withdraws owner id) (did .later)
-  pub since-add : Never (Withdraws owner id) add
+  pub since-add : Never (Withdraws owner id) sinceAdd
 
 -- "Else it is that of the guest's last ADD with this token as value; for a store, that ADD was made with W; and the guest has
 -- made no REMOVE of the token and no RESET since. If the guest isn't the owner, a PERMIT .."

@@ -44,6 +44,14 @@ writing = done 2 (Load 5 2) 0 ∷ done 2 (Mode 1) 0 ∷ done 2 (Add 3 Write) 2 �
 abbrev pub owning : List Event
 owning = done 1 (Load 5 2) 0 ∷ done 1 (Mode 1) 0 ∷ done 1 (Add 3 Write) 2 ∷ founding
 
+-- PERMIT 1 3 2 R only after ADD 2 3 R -> 2, and MODE 2 1, LOAD 2 5 2
+abbrev pub late : List Event
+late = done 2 (Load 5 2) 0 ∷ done 2 (Mode 1) 0 ∷ done 1 (Permit 3 2 Read) 0 ∷ done 2 (Add 3 Read) 2 ∷ founding
+
+-- PERMIT 4 3 2 R, by a guest that does not own space 3, and the rest of the session
+abbrev pub unowned : List Event
+unowned = done 2 (Load 5 2) 0 ∷ done 2 (Mode 1) 0 ∷ done 2 (Add 3 Read) 2 ∷ done 4 (Permit 3 2 Read) 0 ∷ founding
+
 -- The next call.
 abbrev pub fetch : (guest : ℕ) → Issue
 fetch g = issue g (Fetch 5 0) (0 ∷ [])
