@@ -54,7 +54,7 @@ returns z a b room c =
     ∙ ap₂ (listed (pair z) (a ∷ b ∷ [])) (pair-stored z a b room) (pair-cleared (stored z a b))
 
 -- The first run.
-long : length zeros ≡ 16384
+pub long : length zeros ≡ 16384
 unfolding zeros
 long = length-replicate {A = ℕ} 16384 0
 
@@ -113,9 +113,9 @@ change-done : number (step (holding zeros) (change (1 ∷ 2 ∷ [])) .answer) �
 unfolding start decisions
 change-done = ap (λ (o : Outcome). number (o .answer)) (step-with 16384 (holding zeros) (change (1 ∷ 2 ∷ [])) long)
 
-pub change-reaches : Reaches (step (holding zeros) look .machine) (change (1 ∷ 2 ∷ [])) 3
+pub change-reaches : Reaches (holding zeros) (change (1 ∷ 2 ∷ [])) 3
 unfolding start decisions
-change-reaches = rw look-leaves (record {
+change-reaches = record {
   done = change-done;
   register = 1;
   through = refl;
@@ -123,10 +123,10 @@ change-reaches = rw look-leaves (record {
   live = live-shared;
   space = refl;
   named = inr ((λ e. omega arith), record { right = Write; valid = refl });
-})
+}
 
 -- a list varies from itself in nothing
-same-calls : (x : ℕ) (is : List Issue) (m : Machine) → StoresVaried x m is is
+pub same-calls : (x : ℕ) (is : List Issue) (m : Machine) → StoresVaried x m is is
 unfolding StoresVaried
 same-calls x [] m = tt
 same-calls x (i ∷ is) m = (record { call = refl; long = refl; same = λ _. refl }, same-calls x is (step m i .machine))
@@ -135,7 +135,7 @@ pub varied : StoresVaried 3 (holding zeros) first second
 unfolding StoresVaried
 varied = (
   record { call = refl; long = refl; same = λ _. refl },
-  (record { call = refl; long = refl; same = λ away. absurd (away (refl, change-reaches)) }, same-calls 3 others _),
+  (record { call = refl; long = refl; same = λ away. absurd (away (refl, rw look-leaves change-reaches)) }, same-calls 3 others _),
 )
 
 -- so it speaks of these two runs

@@ -3,3 +3,4 @@ pub mod Cases
 pub mod InstanceRun
 pub mod Instance
 pub mod InstanceRecord
+pub mod InstanceHanded

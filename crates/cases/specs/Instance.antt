@@ -8,7 +8,7 @@ use lib.ListN.{set, replicate}
 use Rattle.model.specs.declared.Cpu.{Cpu}
 use Rattle.model.specs.declared.Grant.the-variants.{Reading}
 use Rattle.model.specs.declared.Guest.{Guest}
-use Rattle.model.specs.declared.Operation.the-variants.{Enrol, Create, Destroy, Permit, Isolate, Add, Remove, Load, Mode, Fetch, Store}
+use Rattle.model.specs.declared.Operation.the-variants.{Enrol, Create, Destroy, Permit, Isolate, Query, Add, Remove, Load, Mode, Fetch, Store}
 use Rattle.model.specs.declared.Right.the-variants.{Read, Write}
 use Rattle.model.specs.declared.Space.{Space}
 use Rattle.model.specs.declared.Standing.the-variants.{Valid}
@@ -97,6 +97,13 @@ first = calls (1 ∷ 2 ∷ [])
 
 abbrev pub second : List Issue
 second = calls (3 ∷ 4 ∷ [])
+
+-- guest 1 stores, and guest 2 asks about owner 0
+abbrev pub question : List Issue
+question = issue 2 (Query 0 temp) [] ∷ []
+
+abbrev pub asking : (stored : List ℕ) → List Issue
+asking b = change b ∷ question
 
 -- What a call returns: its answer, its value, its buffer after it, and what then stands in the slot of space 3.
 pub record Result : Type 0 where

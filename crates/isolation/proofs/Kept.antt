@@ -33,6 +33,12 @@ kept-run m (i ∷ is) (o ∷ os) k =
     let here = promise-whole (step m i) o (k .0) in
     ap₂ (λ (p : Outcome) (ps : List Outcome). p ∷ ps) here (kept-run (o .machine) is os (k .1) ∙ ap (λ (p : Outcome). run (p .machine) is) here)
 
+-- and a run of the model keeps every contract
+pub run-kept : (m : Machine) (is : List Issue) → Kept m is (run m is)
+unfolding Kept run
+run-kept m [] = tt
+run-kept m (i ∷ is) = (record { number = refl; value = refl; answer = refl; tables = refl; scratch = refl; buffer = refl }, run-kept (step m i .machine) is)
+
 pub left-run : (m : Machine) (is : List Issue) → leftBy m (run m is) ≡ afterRun m is
 unfolding leftBy run afterRun
 left-run m [] = refl
