@@ -61,7 +61,7 @@ module _ (h : List Event) (i : Issue) (x r : ℕ) (goes : Through (i .call .oper
     pub none-write : isStore (i .call .operation) ≡ true → Undone (added g x Write t) h → Ground h i x → ⊥
     none-write store never w = let p = by w in undone (added g x Write t) h never (rw (p .write store) at (p .did))
 
-    -- A call of the record did the deed of `e`; `l` is what came since, `b` what came before.
+    -- `e` is a call of the record, `l` what came since and `b` what came before.
     module _ (l : List Event) (e : Event) (b : List Event) (split : h ≡ l ++ (e ∷ b)) where
       -- by it the guest gave the token up, and it did not add the token for this space by it or since
       given-up : GivesUp g t (deed e) → ((q : Right) → deed e ≡ added g x q t → ⊥) → ((q : Right) → Undone (added g x q t) l) → Ground h i x → ⊥
@@ -129,7 +129,7 @@ module _ (h : List Event) (i : Issue) (x r : ℕ) (goes : Through (i .call .oper
         pub none-owner-reset : deed e ≡ reset o → ((q : Right) → Undone (permitted o x g q) l) → Ground h i x → ⊥
         none-owner-reset is = withdrawn (inr is) (λ q a. let z : _≡_ {A = ℕ} 0 1 = cc in omega arith)
 
-        -- no ADD since e, and no PERMIT before it: so a PERMIT came after the ADD only
+        -- no ADD later than e and no PERMIT earlier: a PERMIT came after the ADD only
         pub none-permitted-first : ((q : Right) → Undone (added g x q t) l) → ((q : Right) → Undone (permitted o x g q) b) → Ground h i x → ⊥
         none-permitted-first add never w =
             undone _ b (never (permit w .right)) (before-it h l e b split _ _ (add (by w .right)) (by w .did) (permit w .did))
