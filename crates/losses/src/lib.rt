@@ -1,10 +1,12 @@
 // Withdrawing, element by element: what becomes of one slot, one permit and one entry.
+ghost use Prim.Native.Nat.{_<_};
 ghost use mathlib.Core.Bool.{not};
 ghost use mathlib.Core.Path.{_≡_};
+ghost use lib.Dec.{eqb};
 ghost use Rattle.lists.specs.Choice.{choose, both, either};
-ghost use Rattle.model.specs.Changes.{released};
+ghost use Rattle.model.specs.Changes.{released, revoked};
 ghost use Rattle.model.specs.Tables.{noSpace, noPermit};
-ghost use Rattle.losses.specs.Looks.{lookPlace, revokedEntry};
+ghost use Rattle.losses.specs.Looks.{namedSlot, lookPlace, revokedEntry};
 use model::Entry;
 use model::Grant;
 use model::Permit;
@@ -26,32 +28,44 @@ pub fn space_unless(x: Space, gone: bool) -> Space
     x
 }
 
+pub fn no_permit() -> Permit
+    ensures { λ r. ⌜ r ≡ noPermit ⌝ }
+{
+    Permit {
+        grant: Grant::Nothing,
+    }
+}
+
 pub fn permit_unless(p: Permit, closed: bool) -> Permit
     ensures { λ r. ⌜ r ≡ choose closed noPermit p ⌝ }
 {
     if closed {
-        return Permit {
-            grant: Grant::Nothing,
-        };
+        return no_permit();
     }
     p
+}
+
+// The slot that an entry names, and 32, which is no slot, where it names none.
+fn named_slot(e: Entry) -> u32
+    ensures { λ r. ⌜ r ≡ namedSlot (e .standing) ⌝ }
+{
+    let x = e.standing;
+    match x {
+        Standing::Unused => 32,
+        Standing::Valid { slot, right: _ } => slot as u32,
+        Standing::Revoked => 32,
+    }
 }
 
 // Where an entry looks in a set of slots: at the slot that it names, else at the last place.
 pub fn look_place(e: Entry) -> usize
     ensures { λ r. ⌜ r ≡ lookPlace (e .standing) ⌝ }
 {
-    let x = e.standing;
-    match x {
-        Standing::Unused => 32,
-        Standing::Valid { slot, right: _ } => {
-            if slot < 32 {
-                return slot as usize;
-            }
-            32
-        }
-        Standing::Revoked => 32,
+    let u = named_slot(e);
+    if u < 32 {
+        return u as usize;
     }
+    32
 }
 
 // Every guest loses its entry for a space that is gone, and for a closed one every guest but the owner.
@@ -67,16 +81,32 @@ pub fn is_lost(gone: bool, closed: bool, own: bool) -> bool
     false
 }
 
+// A choice of two whole entries: over a table it becomes a choice of numbers, with no branch.
+fn either_entry(first: bool, a: Entry, b: Entry) -> Entry
+    ensures { λ r. ⌜ r ≡ choose first a b ⌝ }
+{
+    if first {
+        return a;
+    }
+    b
+}
+
 pub fn revoke_if(e: Entry, lost: bool) -> Entry
     ensures { λ r. ⌜ r ≡ choose lost (revokedEntry e) e ⌝ }
 {
-    if lost {
-        return Entry {
-            standing: Standing::Revoked,
-            sequence: e.sequence,
-        };
-    }
-    e
+    let gone = Entry {
+        standing: Standing::Revoked,
+        sequence: e.sequence,
+    };
+    either_entry(lost, gone, e)
+}
+
+// What becomes of an entry whose guest loses the space in a slot.
+pub fn entry_without(e: Entry, slot: u8) -> Entry
+    requires { ⌜ slot < 32 ⌝ }
+    ensures { λ r. ⌜ r ≡ revoked (eqb slot) e ⌝ }
+{
+    revoke_if(e, slot as u32 == named_slot(e))
 }
 
 pub fn release_if(e: Entry, own: bool) -> Entry

@@ -3,12 +3,13 @@ use Prim.Native.Nat.{ℕ, _<_}
 use mathlib.Core.Bool.{Bool, true, false, not}
 use mathlib.Core.List.{List}
 use mathlib.Core.Path.{_≡_, refl, sym, ap, ap₂, fun-ext, _∙_}
+use native.Mathlib.Omega.{arith}
 use lib.Dec.{eqb}
-use lib.ListN.{replicate}
-use Rattle.lists.specs.Choice.{either}
+use Rattle.lists.specs.Choice.{choose, either}
 use Rattle.lists.proofs.Choice.{both-when}
 use Rattle.model.specs.declared.Answer.the-variants.{Done}
 use Rattle.model.specs.declared.Caller.{Caller}
+use Rattle.model.specs.declared.Change.the-variants.{DestroySpace, IsolateSpace}
 use Rattle.model.specs.declared.Entry.{Entry}
 use Rattle.model.specs.declared.Operation.the-variants.{Destroy, Isolate, Reset}
 use Rattle.model.specs.declared.Permit.{Permit}
@@ -16,20 +17,22 @@ use Rattle.model.specs.declared.Space.{Space}
 use Rattle.model.specs.declared.State.{State}
 use Rattle.model.specs.Arguments.{arguments, checkAll}
 use Rattle.model.specs.Calls.{judge, enrols, perform, destroy, isolate, reset}
-use Rattle.model.specs.Changes.{releasedAll, vacated, unpermitted, loses, revokedAll, withdrawn, resetTables}
+use Rattle.model.specs.Changes.{releasedAll, vacated, unpermitted, loses, revokedAll, withdrawn, resetTables, applied}
 use Rattle.model.specs.Leaves.{callerPlace, flag}
 use Rattle.model.specs.Names.{baseName}
 use Rattle.model.specs.Replies.{reply, replied, callOf}
 use Rattle.model.specs.Searches.{slotOf, isOwned, isData}
+use Rattle.model.specs.SoundTest.{sound}
 use Rattle.model.specs.Tables.{spaceAt, withSpaces, withPermits, withEntries}
-use Rattle.model.proofs.Rules.{go-on}
+use Rattle.model.proofs.Rules.{go-on, place-yes, place-is}
+use Rattle.model.proofs.Searches.{enrolled-guest}
 use Rattle.lookup.specs.declared.Owned.{Owned}
 use Rattle.lookup.specs.declared.Owned.the-variants.{At}
 use Rattle.lookup.specs.Owned.{ownedSpace}
-use Rattle.lookup.proofs.Owning.{owning-yes, owned-slot}
+use Rattle.lookup.proofs.Owning.{owning-yes, owned-slot, owned-low, owned-owner}
 use Rattle.lookup.proofs.Rules.{good-caller}
+use Rattle.withdrawing.specs.One.{OneSlot}
 use Rattle.withdrawing.specs.Sets.{IsSet, Sets, slotsOf, losesTo}
-use Rattle.withdrawing.proofs.Sets.{none-set}
 
 -- For search: the space in the slot is a primary.
 pub primary-found : (ss : List Space) (g i u n : ℕ) (o : Owned) (b : Bool) → o ≡ ownedSpace ss g i → o ≡ At u → b ≡ eqb (spaceAt ss u .name) n → b ≡ true → not (eqb (spaceAt ss (slotOf ss i) .name) n) ≡ false
@@ -56,22 +59,26 @@ module _ (s : State) (c : Caller) (at : ℕ) (e : at ≡ callerPlace (s .guests)
     slot : u ≡ slotOf (s .spaces) i
     slot = owned-slot (s .spaces) (c .guest) i o u is to
 
-    pub destroy-done : (b : Bool) (one : List Bool) (t : State) → b ≡ eqb (spaceAt (s .spaces) u .name) baseName → b ≡ false
-        → IsSet (eqb u) one → t ≡ withdrawn (flag one) (flag one) s → reply (Done 0) t ≡ replied s (judge s (callOf c (Destroy i)) 0)
-    unfolding enrols arguments checkAll perform destroy replied
-    destroy-done b one t z n q w =
-        good-caller _ s c (Destroy i) 0 at refl e l
-        (owning-yes s (c .guest) i o is _ _ u to
-        (rw (← slot)
-        (go-on _ s _ _ _ (ap not (sym z ∙ n)) (ap (reply (Done 0)) (w ∙ withdrawn-by s one one (eqb u) (eqb u) q q)))))
+    pub one-asked : sound s ≡ true → OneSlot s at u
+    one-asked ok =
+        let g = enrolled-guest (s .guests) (c .guest) (place-yes at (s .guests) (c .guest) e l) in
+        record {
+          ok = ok;
+          low = owned-low (s .spaces) (c .guest) i o u is to;
+          inside = l;
+          owner = owned-owner (s .spaces) (c .guest) i o u is to ∙ omega (arith, place-is at (s .guests) (c .guest) e l);
+        }
 
-    pub isolate-done : (one : List Bool) (t : State) → IsSet (eqb u) one → t ≡ withdrawn (flag (replicate 33 false)) (flag one) s
-        → reply (Done 0) t ≡ replied s (judge s (callOf c (Isolate i)) 0)
-    unfolding enrols arguments checkAll perform isolate replied
-    isolate-done one t q w =
-        good-caller _ s c (Isolate i) 0 at refl e l
-        (owning-yes s (c .guest) i o is _ _ u to
-        (rw (← slot) (ap (reply (Done 0)) (w ∙ withdrawn-by s (replicate 33 false) one (λ v. false) (eqb u) none-set q))))
+    pub destroy-done : (b : Bool) (t : State) → b ≡ eqb (spaceAt (s .spaces) u .name) baseName → b ≡ false
+        → t ≡ applied s (choose true (DestroySpace u) (IsolateSpace u)) → reply (Done 0) t ≡ replied s (judge s (callOf c (Destroy i)) 0)
+    unfolding enrols arguments checkAll perform destroy replied choose
+    destroy-done b t z n w =
+        good-caller _ s c (Destroy i) 0 at refl e l
+        (owning-yes s (c .guest) i o is _ _ u to (rw (← slot) (go-on _ s _ _ _ (ap not (sym z ∙ n)) (ap (reply (Done 0)) w))))
+
+    pub isolate-done : (t : State) → t ≡ applied s (choose false (DestroySpace u) (IsolateSpace u)) → reply (Done 0) t ≡ replied s (judge s (callOf c (Isolate i)) 0)
+    unfolding enrols arguments checkAll perform isolate replied choose
+    isolate-done t w = good-caller _ s c (Isolate i) 0 at refl e l (owning-yes s (c .guest) i o is _ _ u to (rw (← slot) (ap (reply (Done 0)) w)))
 
   pub reset-done : (gone closed : List Bool) (t : State) (es : List Entry) → IsSet (slotsOf (isData (c .guest)) (s .spaces)) gone → IsSet (slotsOf (isOwned (c .guest)) (s .spaces)) closed
       → t ≡ withdrawn (flag gone) (flag closed) s → es ≡ releasedAll (c .guest) (t .entries) → reply (Done 0) (withEntries t es) ≡ replied s (judge s (callOf c Reset) 0)

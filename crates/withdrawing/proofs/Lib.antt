@@ -1,4 +1,7 @@
 -- Laws of this crate.
+pub mod Ranges
+pub mod One
+pub mod OneDone
 pub mod Sets
 pub mod Revoking
 pub mod Done

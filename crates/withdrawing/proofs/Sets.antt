@@ -25,16 +25,6 @@ none-set = record { holds = λ v. go v (decLe 33 v); last = refl }
     go v (yes h) = List·getD-eq-default (replicate 33 false) false {n = v} h
     go v (no h) = getD-replicate 33 v false false (omega arith)
 
--- one slot
-pub only-set : (u : ℕ) → u < 32 → IsSet (eqb u) (set (replicate 33 false) u true)
-only-set u h = record { holds = holds; last = holds 32 ∙ ne-eqb u 32 (λ e. omega arith) }
-  where
-    holds : (v : ℕ) → flag (set (replicate 33 false) u true) v ≡ eqb u v
-    holds v =
-        at-set (λ b. b ≡ eqb u v) (replicate 33 false) u true v false (omega arith)
-        (λ e. sym (eq-eqb u v (sym e)))
-        (λ ne. none-set .holds v ∙ sym (ne-eqb u v (λ e. ne (sym e))))
-
 -- The slots below i of which p holds: what a loop over all slots has found so far, one turn of it, and its end.
 unfoldable pub slotsBelow : (ℕ → Bool) → ℕ → List Bool
 slotsBelow p i = mapBelow (λ u b. p u) i (replicate 33 false)
@@ -73,15 +63,9 @@ none-owned g = both-no _ refl
 pub none-data : (g : ℕ) → isData g noSpace ≡ false
 none-data g = both-no _ (none-owned g)
 
-pub ruleset slots = (only-set, slots-start, slots-go, slot-is, slots-set, none-owned, none-data)
+pub ruleset slots = (slots-start, slots-go, slot-is, slots-set, none-owned, none-data)
 
--- What withdrawing asks of the two sets: where one slot is closed, and where all of a guest's are.
-module _ (ss : List Space) (g : ℕ) (gone closed : List Bool) where
-  pub one-asked : (u : ℕ) (p : ℕ → Bool) → IsSet (eqb u) closed → IsSet p gone → spaceAt ss u .owner ≡ g → Sets ss g gone closed
-  one-asked u p c n o = record { gone-last = n .last; closed-last = c .last; owner = λ v e. rw (← eqb-true u v (sym (c .holds v) ∙ e)) o }
-
-  pub owned-asked : (p : ℕ → Bool) → IsSet (slotsOf (isOwned g) ss) closed → IsSet p gone → Sets ss g gone closed
-  unfolding slotsOf
-  owned-asked p c n = record { gone-last = n .last; closed-last = c .last; owner = λ v e. eqb-true _ g (both-right (live (spaceAt ss v)) _ (sym (c .holds v) ∙ e)) }
-
-pub ruleset sets = (none-set, one-asked, owned-asked)
+-- What withdrawing asks of the two sets, where all of a guest's slots are closed.
+pub owned-asked : (ss : List Space) (g : ℕ) (gone closed : List Bool) (p : ℕ → Bool) → IsSet (slotsOf (isOwned g) ss) closed → IsSet p gone → Sets ss g gone closed
+unfolding slotsOf
+owned-asked ss g gone closed p c n = record { gone-last = n .last; closed-last = c .last; owner = λ v e. eqb-true _ g (both-right (live (spaceAt ss v)) _ (sym (c .holds v) ∙ e)) }

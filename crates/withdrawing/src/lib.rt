@@ -1,17 +1,19 @@
-// DESTROY, ISOLATE and RESET: one change over two sets of slots, `gone`, whose spaces are destroyed, and `closed`, whose
-// permits go. A set is a table of Booleans. Its last place is no slot and false: an entry that names no slot looks there, so
-// that every entry is looked up alike.
-ghost use Prim.Native.Nat.{_+_, _<_};
+// DESTROY, ISOLATE and RESET. The first two change one slot. RESET changes two sets of slots, `gone`, whose spaces are
+// destroyed, and `closed`, whose permits go. A set is a table of Booleans. Its last place is no slot and false: an entry that
+// names no slot looks there, so that every entry is looked up alike.
+ghost use Prim.Native.Nat.{_+_, _≤_, _<_};
 ghost use mathlib.Core.Bool.{true, false};
 ghost use mathlib.Core.Path.{_≡_};
-ghost use lib.Dec.{eqb};
+ghost use Rattle.lists.specs.Choice.{choose};
 ghost use Rattle.model.specs.Calls.{judge};
-ghost use Rattle.model.specs.Changes.{releasedAll, vacated, unpermitted, revokedAll, withdrawn};
+ghost use Rattle.model.specs.Changes.{releasedAll, vacated, unpermitted, revokedAll, withdrawn, applied};
 ghost use Rattle.model.specs.Leaves.{flag};
 ghost use Rattle.model.specs.Replies.{replied, callOf};
 ghost use Rattle.model.specs.Searches.{isOwned, isData};
 ghost use Rattle.model.specs.SoundTest.{sound};
+ghost use Rattle.model.specs.declared.Change.the-variants.{DestroySpace, IsolateSpace};
 ghost use Rattle.model.specs.declared.Operation.the-variants.{Destroy, Isolate, Reset};
+ghost use Rattle.withdrawing.specs.One.{OneSlot};
 ghost use Rattle.withdrawing.specs.Sets.{IsSet, Sets, slotsOf, losesTo};
 use lookup::Owned;
 use model::Answer;
@@ -89,16 +91,6 @@ fn withdraw(s: State, owner: u32, gone: [bool; 33], closed: [bool; 33]) -> State
     t
 }
 
-// The set of one slot.
-fn only(u: usize) -> [bool; 33]
-    requires { ⌜ u < 32 ⌝ }
-    ensures { λ r. ⌜ IsSet (eqb u) r ⌝ }
-{
-    let mut t = [false; 33];
-    t[u] = true;
-    t
-}
-
 // The slots of a guest's data spaces.
 fn data_slots(spaces: [Space; 32], owner: u32) -> [bool; 33]
     ensures { λ r. ⌜ IsSet (slotsOf (isData owner) spaces) r ⌝ }
@@ -123,6 +115,41 @@ fn owned_slots(spaces: [Space; 32], owner: u32) -> [bool; 33]
     t
 }
 
+// The place of the list that keeps its entries for a space: the owner's, and of a space that is destroyed none.
+fn kept_list(owner: usize, gone: bool) -> usize
+    requires { ⌜ owner < 8 ⌝ }
+    ensures { λ r. ⌜ (r ≡ choose gone 8 owner) × (r ≤ 8) ⌝ }
+{
+    if gone {
+        return 8;
+    }
+    owner
+}
+
+// The change over one slot, whose space is destroyed or isolated. No set is made: eight permits go, and the lists below and above
+// the one that is kept lose their entries.
+fn withdraw_one(mut s: State, owner: usize, slot: u8, gone: bool) -> State
+    requires { ⌜ OneSlot s owner slot ⌝ }
+    ensures { λ r. ⌜ r ≡ applied s (choose gone (DestroySpace slot) (IsolateSpace slot)) ⌝ }
+{
+    let u = slot as usize;
+    let x = s.spaces[u];
+    s.spaces[u] = losses::space_unless(x, gone);
+    for k in u * 8..u * 8 + 8 {
+        s.permits[k] = losses::no_permit();
+    }
+    let kept = kept_list(owner, gone);
+    for k in 0..kept * 30 {
+        let e = s.entries[k];
+        s.entries[k] = losses::entry_without(e, slot);
+    }
+    for k in kept * 30 + 30..240 {
+        let e = s.entries[k];
+        s.entries[k] = losses::entry_without(e, slot);
+    }
+    s
+}
+
 // Every valid entry for the space becomes revoked, its permits vanish, and its frames are free for use again.
 pub fn destroy(s: State, caller: Caller, id: u32) -> Reply
     requires { ⌜ sound s ≡ true ⌝ }
@@ -144,19 +171,18 @@ pub fn destroy(s: State, caller: Caller, id: u32) -> Reply
                 state: s,
             };
         }
-        Owned::At { slot } => slot as usize,
+        Owned::At { slot } => slot,
     };
-    let x = spaces[u];
+    let x = spaces[u as usize];
     if slots::is_base(x) {
         return Reply {
             answer: Answer::PrimarySpace,
             state: s,
         };
     }
-    let one = only(u);
     Reply {
         answer: Answer::Done { value: 0 },
-        state: withdraw(s, caller.guest, one, one),
+        state: withdraw_one(s, at, u, true),
     }
 }
 
@@ -181,13 +207,11 @@ pub fn isolate(s: State, caller: Caller, id: u32) -> Reply
                 state: s,
             };
         }
-        Owned::At { slot } => slot as usize,
+        Owned::At { slot } => slot,
     };
-    let none = [false; 33];
-    let one = only(u);
     Reply {
         answer: Answer::Done { value: 0 },
-        state: withdraw(s, caller.guest, none, one),
+        state: withdraw_one(s, at, u, false),
     }
 }
 

@@ -3,10 +3,9 @@ use borrow.Author.Needs.{needs}
 use Rattle.model.specs.Arguments.{arguments, checkAll}
 use Rattle.model.specs.Calls.{enrols, perform, destroy}
 use Rattle.model.proofs.Rules.{checks}
-use Rattle.lookup.proofs.Owning.{settling, owned-low, owned-owner}
+use Rattle.lookup.proofs.Owning.{settling, owned-low}
 use Rattle.lookup.proofs.Rules.{bad-caller, good-caller}
-use Rattle.withdrawing.proofs.Done.{primary-found, destroy-done}
-use Rattle.withdrawing.proofs.Sets.{sets}
+use Rattle.withdrawing.proofs.Done.{primary-found, one-asked, destroy-done}
 use Rattle.withdrawing.proofs.destroy.Statement.{statement}
 use Rattle.withdrawing.proofs.destroy.Tie as tie
 
@@ -25,11 +24,8 @@ returns-3 : tie.Need-returns-3
 unfolding enrols arguments checkAll perform destroy
 returns-3 c = search (good-caller, settling, checks, primary-found) depth 8
 
-only-requires : tie.Need-only-requires
-only-requires c κs = search owned-low
-
-withdraw-requires : tie.Need-withdraw-requires
-withdraw-requires c κs = search (sets, owned-owner)
+withdraw-one-requires : tie.Need-withdraw-one-requires
+withdraw-one-requires c κs = search one-asked
 
 returns-4 : tie.Need-returns-4
 returns-4 c = search destroy-done
@@ -49,6 +45,5 @@ destroy-spec =
     array-copy-out-x
     (λ c κs. search needs)
     returns-3
-    only-requires
-    withdraw-requires
+    withdraw-one-requires
     returns-4)

@@ -2,10 +2,9 @@
 use borrow.Author.Needs.{needs}
 use Rattle.model.specs.Arguments.{arguments, checkAll}
 use Rattle.model.specs.Calls.{enrols, perform, isolate}
-use Rattle.lookup.proofs.Owning.{settling, owned-low, owned-owner}
+use Rattle.lookup.proofs.Owning.{settling}
 use Rattle.lookup.proofs.Rules.{bad-caller, good-caller}
-use Rattle.withdrawing.proofs.Done.{isolate-done}
-use Rattle.withdrawing.proofs.Sets.{sets}
+use Rattle.withdrawing.proofs.Done.{one-asked, isolate-done}
 use Rattle.withdrawing.proofs.isolate.Statement.{statement}
 use Rattle.withdrawing.proofs.isolate.Tie as tie
 
@@ -17,11 +16,8 @@ returns-2 : tie.Need-returns-2
 unfolding enrols arguments checkAll perform isolate
 returns-2 c = search (good-caller, settling) depth 8
 
-only-requires : tie.Need-only-requires
-only-requires c κs = search owned-low
-
-withdraw-requires : tie.Need-withdraw-requires
-withdraw-requires c κs = search (sets, owned-owner)
+withdraw-one-requires : tie.Need-withdraw-one-requires
+withdraw-one-requires c κs = search one-asked
 
 returns-3 : tie.Need-returns-3
 returns-3 c = search isolate-done
@@ -36,7 +32,5 @@ isolate-spec =
     (λ c. search needs)
     returns-2
     (λ c. search needs)
-    (λ c. search needs)
-    only-requires
-    withdraw-requires
+    withdraw-one-requires
     returns-3)

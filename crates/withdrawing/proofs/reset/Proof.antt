@@ -2,7 +2,7 @@
 use Rattle.model.specs.Calls.{enrols}
 use Rattle.lookup.proofs.Rules.{bad-caller}
 use Rattle.withdrawing.proofs.Done.{reset-done}
-use Rattle.withdrawing.proofs.Sets.{sets}
+use Rattle.withdrawing.proofs.Sets.{owned-asked}
 use borrow.Author.Needs.{needs}
 use Rattle.withdrawing.proofs.reset.Statement.{statement}
 use Rattle.withdrawing.proofs.reset.Tie as tie
@@ -12,7 +12,7 @@ unfolding enrols
 returns c = search bad-caller
 
 withdraw-requires : tie.Need-withdraw-requires
-withdraw-requires c κs = search sets
+withdraw-requires c κs = search owned-asked
 
 returns-2 : tie.Need-returns-2
 returns-2 c = search reset-done

@@ -1,0 +1,41 @@
+-- A loop that changes the places of a list from one place on, and two changes one after the other. Assumes nothing.
+use Prim.Native.Nat.{ℕ, _+_, _≤_, _<_}
+use mathlib.Core.List.{List, [], _∷_}
+use mathlib.Core.Path.{_≡_, refl, sym, ap, _∙_}
+use lib.Dec.{ltb}
+use lib.ListN.{length, getD, set}
+use borrow.Author.Tests.{le-ltb}
+use Rattle.lists.specs.Choice.{choose}
+use Rattle.lists.specs.Places.{mapFrom, mapPlaces}
+use Rattle.lists.proofs.Choice.{yes!, no!, choose-elim}
+use Rattle.lists.proofs.Maps.{mapBelow, length-mapBelow, below-more, map-alike, map-nothing}
+
+module _ {A : Type 0} where
+  pub map-map : (f g : ℕ → A → A) (l : List A) → mapPlaces f (mapPlaces g l) ≡ mapPlaces (λ k x. f k (g k x)) l
+  unfolding mapPlaces mapFrom
+  map-map f g l = go 0 l
+    where
+      go : (i : ℕ) (m : List A) → mapFrom f i (mapFrom g i m) ≡ mapFrom (λ k x. f k (g k x)) i m
+      go i [] = refl
+      go i (x ∷ xs) = ap (_∷_ (f i (g i x))) (go (i + 1) xs)
+
+  -- the places from i on and below k are changed
+  unfoldable pub mapRange : (ℕ → A → A) → (i k : ℕ) → List A → List A
+  mapRange f i k l = mapBelow (λ j x. choose (ltb j i) x (f j x)) k l
+
+  module _ (f : ℕ → A → A) (i : ℕ) (l : List A) where
+    pub length-range : (k : ℕ) → length (mapRange f i k l) ≡ length l
+    unfolding mapRange
+    length-range k = length-mapBelow _ l k
+
+    -- before the first turn
+    pub range-none : l ≡ mapRange f i i l
+    unfolding mapRange mapBelow
+    range-none =
+        sym
+        (map-alike _ (λ k x. x) l (λ k x b. choose-elim (λ y. y ≡ x) (ltb k i) _ x (λ e. yes! _ _ e) (λ e. refl)) ∙ map-nothing l)
+
+    -- one turn
+    pub range-more : (t : List A) (k : ℕ) (x d : A) → t ≡ mapRange f i k l → x ≡ f k (getD t k d) → i ≤ k → k < length l → set t k x ≡ mapRange f i (k + 1) l
+    unfolding mapRange
+    range-more t k x d e p h b = below-more _ l t k x d b e (p ∙ sym (no! _ _ (le-ltb k i h)))
