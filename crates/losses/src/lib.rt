@@ -1,5 +1,5 @@
 // Withdrawing, element by element: what becomes of one slot, one permit and one entry.
-ghost use Prim.Native.Nat.{_<_};
+ghost use Prim.Native.Nat.{_≤_, _<_};
 ghost use mathlib.Core.Bool.{not};
 ghost use mathlib.Core.Path.{_≡_};
 ghost use lib.Dec.{eqb};
@@ -107,6 +107,17 @@ pub fn entry_without(e: Entry, slot: u8) -> Entry
     ensures { λ r. ⌜ r ≡ revoked (eqb slot) e ⌝ }
 {
     revoke_if(e, slot as u32 == named_slot(e))
+}
+
+// The place of the list that keeps its entries for a space: the owner's, and of a space that is destroyed none.
+pub fn kept_list(owner: usize, gone: bool) -> usize
+    requires { ⌜ owner < 8 ⌝ }
+    ensures { λ r. ⌜ (r ≡ choose gone 8 owner) × (r ≤ 8) ⌝ }
+{
+    if gone {
+        return 8;
+    }
+    owner
 }
 
 pub fn release_if(e: Entry, own: bool) -> Entry

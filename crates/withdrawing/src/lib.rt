@@ -1,7 +1,7 @@
 // DESTROY, ISOLATE and RESET. The first two change one slot. RESET changes two sets of slots, `gone`, whose spaces are
 // destroyed, and `closed`, whose permits go. A set is a table of Booleans. Its last place is no slot and false: an entry that
 // names no slot looks there, so that every entry is looked up alike.
-ghost use Prim.Native.Nat.{_+_, _≤_, _<_};
+ghost use Prim.Native.Nat.{_+_};
 ghost use mathlib.Core.Bool.{true, false};
 ghost use mathlib.Core.Path.{_≡_};
 ghost use Rattle.lists.specs.Choice.{choose};
@@ -115,17 +115,6 @@ fn owned_slots(spaces: [Space; 32], owner: u32) -> [bool; 33]
     t
 }
 
-// The place of the list that keeps its entries for a space: the owner's, and of a space that is destroyed none.
-fn kept_list(owner: usize, gone: bool) -> usize
-    requires { ⌜ owner < 8 ⌝ }
-    ensures { λ r. ⌜ (r ≡ choose gone 8 owner) × (r ≤ 8) ⌝ }
-{
-    if gone {
-        return 8;
-    }
-    owner
-}
-
 // The change over one slot, whose space is destroyed or isolated. No set is made: eight permits go, and the lists below and above
 // the one that is kept lose their entries.
 fn withdraw_one(mut s: State, owner: usize, slot: u8, gone: bool) -> State
@@ -138,7 +127,7 @@ fn withdraw_one(mut s: State, owner: usize, slot: u8, gone: bool) -> State
     for k in u * 8..u * 8 + 8 {
         s.permits[k] = losses::no_permit();
     }
-    let kept = kept_list(owner, gone);
+    let kept = losses::kept_list(owner, gone);
     for k in 0..kept * 30 {
         let e = s.entries[k];
         s.entries[k] = losses::entry_without(e, slot);

@@ -1,8 +1,8 @@
--- `withdrawing::kept_list` meets its contract. Assumes nothing.
+-- `losses::kept_list` meets its contract. Assumes nothing.
 use native.Mathlib.Omega.{arith}
 use Rattle.lists.proofs.Rules.{tests}
-use Rattle.withdrawing.proofs.kept_list.Statement.{statement}
-use Rattle.withdrawing.proofs.kept_list.Tie as tie
+use Rattle.losses.proofs.kept_list.Statement.{statement}
+use Rattle.losses.proofs.kept_list.Tie as tie
 
 returns : tie.Need-returns
 returns c = (search tests, omega arith)
