@@ -1,9 +1,8 @@
 // Withdrawing, element by element: what becomes of one slot, one permit and one entry.
 ghost use Prim.Native.Nat.{_≤_, _<_};
-ghost use mathlib.Core.Bool.{not};
 ghost use mathlib.Core.Path.{_≡_};
 ghost use lib.Dec.{eqb};
-ghost use Rattle.lists.specs.Choice.{choose, both, either};
+ghost use Rattle.lists.specs.Choice.{choose};
 ghost use Rattle.model.specs.Changes.{released, revoked};
 ghost use Rattle.model.specs.Tables.{noSpace, noPermit};
 ghost use Rattle.losses.specs.Looks.{namedSlot, lookPlace, revokedEntry};
@@ -68,19 +67,6 @@ pub fn look_place(e: Entry) -> usize
     32
 }
 
-// Every guest loses its entry for a space that is gone, and for a closed one every guest but the owner.
-pub fn is_lost(gone: bool, closed: bool, own: bool) -> bool
-    ensures { λ r. ⌜ r ≡ either gone (both closed (not own)) ⌝ }
-{
-    if gone {
-        return true;
-    }
-    if closed {
-        return !own;
-    }
-    false
-}
-
 // A choice of two whole entries: over a table it becomes a choice of numbers, with no branch.
 fn either_entry(first: bool, a: Entry, b: Entry) -> Entry
     ensures { λ r. ⌜ r ≡ choose first a b ⌝ }
@@ -120,11 +106,12 @@ pub fn kept_list(owner: usize, gone: bool) -> usize
     owner
 }
 
-pub fn release_if(e: Entry, own: bool) -> Entry
-    ensures { λ r. ⌜ r ≡ choose own (released e) e ⌝ }
+// What becomes of an entry where a guest is reset: its own are released, others' entries for its spaces revoked.
+pub fn entry_reset(e: Entry, own: bool, closed: bool) -> Entry
+    ensures { λ r. ⌜ r ≡ choose own (released e) (choose closed (revokedEntry e) e) ⌝ }
 {
     if own {
         return entries::release(e);
     }
-    e
+    revoke_if(e, closed)
 }

@@ -32,57 +32,41 @@ use Rattle.lookup.specs.Owned.{ownedSpace}
 use Rattle.lookup.proofs.Owning.{owning-yes, owned-slot, owned-low, owned-owner}
 use Rattle.lookup.proofs.Rules.{good-caller}
 use Rattle.withdrawing.specs.One.{OneSlot}
-use Rattle.withdrawing.specs.Sets.{IsSet, Sets, slotsOf, losesTo}
+use Rattle.withdrawing.specs.Sets.{IsSet, slotsOf, entriesReset}
+use Rattle.withdrawing.proofs.Resetting.{all-reset}
 
 -- For search: the space in the slot is a primary.
 pub primary-found : (ss : List Space) (g i u n : ℕ) (o : Owned) (b : Bool) → o ≡ ownedSpace ss g i → o ≡ At u → b ≡ eqb (spaceAt ss u .name) n → b ≡ true → not (eqb (spaceAt ss (slotOf ss i) .name) n) ≡ false
 primary-found ss g i u n o b is to t y = rw (← owned-slot ss g i o u is to) (ap not (sym t ∙ y))
 
--- where the sets are as asked, the owner that the code compares with is each closed space's
-loses-to : (ss : List Space) (g : ℕ) (gone closed : List Bool) → Sets ss g gone closed → losesTo g (flag gone) (flag closed) ≡ loses ss (flag gone) (flag closed)
-unfolding losesTo loses
-loses-to ss g gone closed ok =
-    fun-ext (λ h. fun-ext (λ u.
-    ap (either (flag gone u)) (both-when (flag closed u) _ _ (λ c. ap (λ o. not (eqb o h)) (sym (ok .owner u c))))))
-
-pub withdraw-done : (s : State) (g : ℕ) (gone closed : List Bool) (x : List Space) (y : List Permit) (z : List Entry) → Sets (s .spaces) g gone closed
-    → x ≡ vacated (flag gone) (s .spaces) → y ≡ unpermitted (flag closed) (s .permits) → z ≡ revokedAll (losesTo g (flag gone) (flag closed)) (s .entries)
-    → withEntries (withPermits (withSpaces s x) y) z ≡ withdrawn (flag gone) (flag closed) s
-unfolding withdrawn
-withdraw-done s g gone closed x y z ok p q r = rw (p, q, r, loses-to (s .spaces) g gone closed ok)
-
-withdrawn-by : (s : State) (gone closed : List Bool) (p q : ℕ → Bool) → IsSet p gone → IsSet q closed → withdrawn (flag gone) (flag closed) s ≡ withdrawn p q s
-withdrawn-by s gone closed p q a b = ap₂ (λ x y. withdrawn x y s) (fun-ext (a .holds)) (fun-ext (b .holds))
-
-module _ (s : State) (c : Caller) (at : ℕ) (e : at ≡ callerPlace (s .guests) (c .guest)) (l : at < 8) where
+module _ (s : State) (c : Caller) (at : ℕ) (e : at ≡ callerPlace (s .guests) (c .guest)) (low : at < 8) where
   module _ (i u : ℕ) (o : Owned) (is : o ≡ ownedSpace (s .spaces) (c .guest) i) (to : o ≡ At u) where
     slot : u ≡ slotOf (s .spaces) i
     slot = owned-slot (s .spaces) (c .guest) i o u is to
 
     pub one-asked : sound s ≡ true → OneSlot s at u
     one-asked ok =
-        let g = enrolled-guest (s .guests) (c .guest) (place-yes at (s .guests) (c .guest) e l) in
+        let g = enrolled-guest (s .guests) (c .guest) (place-yes at (s .guests) (c .guest) e low) in
         record {
           ok = ok;
           low = owned-low (s .spaces) (c .guest) i o u is to;
-          inside = l;
-          owner = owned-owner (s .spaces) (c .guest) i o u is to ∙ omega (arith, place-is at (s .guests) (c .guest) e l);
+          inside = low;
+          owner = owned-owner (s .spaces) (c .guest) i o u is to ∙ omega (arith, place-is at (s .guests) (c .guest) e low);
         }
 
     pub destroy-done : (b : Bool) (t : State) → b ≡ eqb (spaceAt (s .spaces) u .name) baseName → b ≡ false
         → t ≡ applied s (choose true (DestroySpace u) (IsolateSpace u)) → reply (Done 0) t ≡ replied s (judge s (callOf c (Destroy i)) 0)
     unfolding enrols arguments checkAll perform destroy replied choose
     destroy-done b t z n w =
-        good-caller _ s c (Destroy i) 0 at refl e l
+        good-caller _ s c (Destroy i) 0 at refl e low
         (owning-yes s (c .guest) i o is _ _ u to (rw (← slot) (go-on _ s _ _ _ (ap not (sym z ∙ n)) (ap (reply (Done 0)) w))))
 
     pub isolate-done : (t : State) → t ≡ applied s (choose false (DestroySpace u) (IsolateSpace u)) → reply (Done 0) t ≡ replied s (judge s (callOf c (Isolate i)) 0)
     unfolding enrols arguments checkAll perform isolate replied choose
-    isolate-done t w = good-caller _ s c (Isolate i) 0 at refl e l (owning-yes s (c .guest) i o is _ _ u to (rw (← slot) (ap (reply (Done 0)) w)))
+    isolate-done t w = good-caller _ s c (Isolate i) 0 at refl e low (owning-yes s (c .guest) i o is _ _ u to (rw (← slot) (ap (reply (Done 0)) w)))
 
-  pub reset-done : (gone closed : List Bool) (t : State) (es : List Entry) → IsSet (slotsOf (isData (c .guest)) (s .spaces)) gone → IsSet (slotsOf (isOwned (c .guest)) (s .spaces)) closed
-      → t ≡ withdrawn (flag gone) (flag closed) s → es ≡ releasedAll (c .guest) (t .entries) → reply (Done 0) (withEntries t es) ≡ replied s (judge s (callOf c Reset) 0)
-  unfolding enrols arguments checkAll perform reset resetTables replied slotsOf
-  reset-done gone closed t es p q w r =
-      good-caller _ s c Reset 0 at refl e l
-      (rw r (ap (λ x. reply (Done 0) (withEntries x (releasedAll (c .guest) (x .entries)))) (w ∙ withdrawn-by s gone closed _ _ p q)))
+  pub reset-done : (l : List Bool) (x : List Space) (y : List Permit) (z : List Entry) → IsSet (slotsOf (isOwned (c .guest)) (s .spaces)) l
+      → x ≡ vacated (slotsOf (isData (c .guest)) (s .spaces)) (s .spaces) → y ≡ unpermitted (flag l) (s .permits) → z ≡ entriesReset (c .guest) (flag l) (s .entries)
+      → reply (Done 0) (withEntries (withPermits (withSpaces s x) y) z) ≡ replied s (judge s (callOf c Reset) 0)
+  unfolding enrols arguments checkAll perform reset replied
+  reset-done l x y z set p q r = good-caller _ s c Reset 0 at refl e low (ap (reply (Done 0)) (all-reset s (c .guest) l x y z set p q r))

@@ -3,5 +3,5 @@ pub mod Ranges
 pub mod One
 pub mod OneDone
 pub mod Sets
-pub mod Revoking
+pub mod Resetting
 pub mod Done

@@ -15,7 +15,7 @@ use Rattle.model.specs.declared.Space.{Space}
 use Rattle.model.specs.Leaves.{flag}
 use Rattle.model.specs.Searches.{isOwned, isData}
 use Rattle.model.specs.Tables.{noSpace, spaceAt, live}
-use Rattle.withdrawing.specs.Sets.{IsSet, Sets, slotsOf}
+use Rattle.withdrawing.specs.Sets.{IsSet, slotsOf}
 
 -- no slot
 pub none-set : IsSet (λ v. false) (replicate 33 false)
@@ -64,8 +64,3 @@ pub none-data : (g : ℕ) → isData g noSpace ≡ false
 none-data g = both-no _ (none-owned g)
 
 pub ruleset slots = (slots-start, slots-go, slot-is, slots-set, none-owned, none-data)
-
--- What withdrawing asks of the two sets, where all of a guest's slots are closed.
-pub owned-asked : (ss : List Space) (g : ℕ) (gone closed : List Bool) (p : ℕ → Bool) → IsSet (slotsOf (isOwned g) ss) closed → IsSet p gone → Sets ss g gone closed
-unfolding slotsOf
-owned-asked ss g gone closed p c n = record { gone-last = n .last; closed-last = c .last; owner = λ v e. eqb-true _ g (both-right (live (spaceAt ss v)) _ (sym (c .holds v) ∙ e)) }

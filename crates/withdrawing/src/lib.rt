@@ -1,20 +1,20 @@
-// DESTROY, ISOLATE and RESET. The first two change one slot. RESET changes two sets of slots, `gone`, whose spaces are
-// destroyed, and `closed`, whose permits go. A set is a table of Booleans. Its last place is no slot and false: an entry that
-// names no slot looks there, so that every entry is looked up alike.
-ghost use Prim.Native.Nat.{_+_};
+// DESTROY, ISOLATE and RESET. The first two change what belongs to one slot, RESET what belongs to a guest. The slots of a guest's
+// spaces are a table of Booleans. Its last place is no slot and false: an entry that names no slot looks there, so that every
+// entry is looked up alike.
 ghost use mathlib.Core.Bool.{true, false};
 ghost use mathlib.Core.Path.{_≡_};
 ghost use Rattle.lists.specs.Choice.{choose};
 ghost use Rattle.model.specs.Calls.{judge};
-ghost use Rattle.model.specs.Changes.{releasedAll, vacated, unpermitted, revokedAll, withdrawn, applied};
+ghost use Rattle.model.specs.Changes.{vacated, unpermitted, applied};
 ghost use Rattle.model.specs.Leaves.{flag};
 ghost use Rattle.model.specs.Replies.{replied, callOf};
 ghost use Rattle.model.specs.Searches.{isOwned, isData};
 ghost use Rattle.model.specs.SoundTest.{sound};
+ghost use Rattle.model.specs.Tables.{noSpace};
 ghost use Rattle.model.specs.declared.Change.the-variants.{DestroySpace, IsolateSpace};
 ghost use Rattle.model.specs.declared.Operation.the-variants.{Destroy, Isolate, Reset};
 ghost use Rattle.withdrawing.specs.One.{OneSlot};
-ghost use Rattle.withdrawing.specs.Sets.{IsSet, Sets, slotsOf, losesTo};
+ghost use Rattle.withdrawing.specs.Sets.{IsSet, slotsOf, entriesReset};
 use lookup::Owned;
 use model::Answer;
 use model::Caller;
@@ -24,17 +24,37 @@ use model::Reply;
 use model::Space;
 use model::State;
 
-fn vacate(spaces: [Space; 32], gone: [bool; 33]) -> [Space; 32]
-    ensures { λ r. ⌜ r ≡ vacated (flag gone) spaces ⌝ }
+// The slots of all spaces of a guest.
+fn owned_slots(spaces: [Space; 32], owner: u32) -> [bool; 33]
+    ensures { λ r. ⌜ IsSet (slotsOf (isOwned owner) spaces) r ⌝ }
 {
-    let mut t = spaces;
+    let mut t = [false; 33];
     for u in 0..32usize {
-        let x = t[u];
-        t[u] = losses::space_unless(x, gone[u]);
+        let x = spaces[u];
+        t[u] = slots::is_owned(x, owner);
     }
     t
 }
 
+// What becomes of a slot where a guest is reset: its data spaces are destroyed.
+fn space_reset(x: Space, guest: u32) -> Space
+    ensures { λ r. ⌜ r ≡ choose (isData guest x) noSpace x ⌝ }
+{
+    losses::space_unless(x, slots::is_data(x, guest))
+}
+
+fn vacate(spaces: [Space; 32], guest: u32) -> [Space; 32]
+    ensures { λ r. ⌜ r ≡ vacated (slotsOf (isData guest) spaces) spaces ⌝ }
+{
+    let mut t = spaces;
+    for u in 0..32usize {
+        let x = t[u];
+        t[u] = space_reset(x, guest);
+    }
+    t
+}
+
+// The permits for closed spaces go.
 fn unpermit(permits: [Permit; 256], closed: [bool; 33]) -> [Permit; 256]
     ensures { λ r. ⌜ r ≡ unpermitted (flag closed) permits ⌝ }
 {
@@ -46,71 +66,17 @@ fn unpermit(permits: [Permit; 256], closed: [bool; 33]) -> [Permit; 256]
     t
 }
 
-fn revoke(entries: [Entry; 240], owner: u32, gone: [bool; 33], closed: [bool; 33]) -> [Entry; 240]
-    requires { ⌜ (flag gone 32 ≡ false) × (flag closed 32 ≡ false) ⌝ }
-    ensures { λ r. ⌜ r ≡ revokedAll (losesTo owner (flag gone) (flag closed)) entries ⌝ }
-{
-    let own = owner as usize;
-    let mut t = entries;
-    for k in 0..240usize {
-        let e = t[k];
-        let u = losses::look_place(e);
-        t[k] = losses::revoke_if(e, losses::is_lost(gone[u], closed[u], own == k / 30 + 1));
-    }
-    t
-}
-
-// All entries of a guest become unused.
-fn release_all(entries: [Entry; 240], guest: u32) -> [Entry; 240]
-    ensures { λ r. ⌜ r ≡ releasedAll guest entries ⌝ }
+// All entries of a guest become unused, and other guests' entries for closed spaces revoked.
+fn clear_lists(entries: [Entry; 240], guest: u32, closed: [bool; 33]) -> [Entry; 240]
+    requires { ⌜ flag closed 32 ≡ false ⌝ }
+    ensures { λ r. ⌜ r ≡ entriesReset guest (flag closed) entries ⌝ }
 {
     let own = guest as usize;
     let mut t = entries;
     for k in 0..240usize {
         let e = t[k];
-        t[k] = losses::release_if(e, k / 30 + 1 == own);
-    }
-    t
-}
-
-// The one change. All closed spaces have one owner, so an entry need not look up whose its space is.
-fn withdraw(s: State, owner: u32, gone: [bool; 33], closed: [bool; 33]) -> State
-    requires { ⌜ Sets (s .spaces) owner gone closed ⌝ }
-    ensures { λ r. ⌜ r ≡ withdrawn (flag gone) (flag closed) s ⌝ }
-{
-    let spaces = s.spaces;
-    let permits = s.permits;
-    let entries = s.entries;
-    let spaces_after = vacate(spaces, gone);
-    let permits_after = unpermit(permits, closed);
-    let entries_after = revoke(entries, owner, gone, closed);
-    let mut t = s;
-    t.spaces = spaces_after;
-    t.permits = permits_after;
-    t.entries = entries_after;
-    t
-}
-
-// The slots of a guest's data spaces.
-fn data_slots(spaces: [Space; 32], owner: u32) -> [bool; 33]
-    ensures { λ r. ⌜ IsSet (slotsOf (isData owner) spaces) r ⌝ }
-{
-    let mut t = [false; 33];
-    for u in 0..32usize {
-        let x = spaces[u];
-        t[u] = slots::is_data(x, owner);
-    }
-    t
-}
-
-// The slots of all spaces of a guest.
-fn owned_slots(spaces: [Space; 32], owner: u32) -> [bool; 33]
-    ensures { λ r. ⌜ IsSet (slotsOf (isOwned owner) spaces) r ⌝ }
-{
-    let mut t = [false; 33];
-    for u in 0..32usize {
-        let x = spaces[u];
-        t[u] = slots::is_owned(x, owner);
+        let u = losses::look_place(e);
+        t[k] = losses::entry_reset(e, k / 30 + 1 == own, closed[u]);
     }
     t
 }
@@ -218,12 +184,16 @@ pub fn reset(s: State, caller: Caller) -> Reply
         };
     }
     let spaces = s.spaces;
-    let gone = data_slots(spaces, caller.guest);
+    let permits = s.permits;
+    let entries = s.entries;
     let closed = owned_slots(spaces, caller.guest);
-    let mut t = withdraw(s, caller.guest, gone, closed);
-    let kept = t.entries;
-    let freed = release_all(kept, caller.guest);
-    t.entries = freed;
+    let spaces_after = vacate(spaces, caller.guest);
+    let permits_after = unpermit(permits, closed);
+    let entries_after = clear_lists(entries, caller.guest, closed);
+    let mut t = s;
+    t.spaces = spaces_after;
+    t.permits = permits_after;
+    t.entries = entries_after;
     Reply {
         answer: Answer::Done { value: 0 },
         state: t,

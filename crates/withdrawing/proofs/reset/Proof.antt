@@ -1,18 +1,14 @@
 -- `withdrawing::reset` meets its contract. Assumes nothing.
+use borrow.Author.Needs.{needs}
 use Rattle.model.specs.Calls.{enrols}
 use Rattle.lookup.proofs.Rules.{bad-caller}
 use Rattle.withdrawing.proofs.Done.{reset-done}
-use Rattle.withdrawing.proofs.Sets.{owned-asked}
-use borrow.Author.Needs.{needs}
 use Rattle.withdrawing.proofs.reset.Statement.{statement}
 use Rattle.withdrawing.proofs.reset.Tie as tie
 
 returns : tie.Need-returns
 unfolding enrols
 returns c = search bad-caller
-
-withdraw-requires : tie.Need-withdraw-requires
-withdraw-requires c κs = search owned-asked
 
 returns-2 : tie.Need-returns-2
 returns-2 c = search reset-done
@@ -25,6 +21,6 @@ reset-spec =
     returns
     (λ c κs. search needs)
     (λ c κs. search needs)
-    withdraw-requires
+    (λ c κs. search needs)
     (λ c κs. search needs)
     returns-2)

@@ -1,22 +1,22 @@
--- `withdrawing::vacate` meets its contract. The loop has vacated the gone slots below u. Assumes nothing.
+-- `withdrawing::vacate` meets its contract. The loop has vacated the guest's data slots below u. Assumes nothing.
 use Prim.Native.Nat.{_≤_, _-_}
 use mathlib.Core.Path.{_≡_}
 use native.Mathlib.Omega.{arith}
+use Rattle.lists.specs.Choice.{choose}
 use Rattle.lists.proofs.Rules.{maps}
 use Rattle.lists.proofs.Maps.{mapBelow}
-use Rattle.lists.specs.Choice.{choose}
-use Rattle.model.specs.Changes.{vacated}
-use Rattle.model.specs.Leaves.{flag}
+use Rattle.model.specs.Searches.{isData}
 use Rattle.model.specs.Tables.{noSpace}
 use borrow.Author.Needs.{needs}
+use Rattle.withdrawing.proofs.Resetting.{spaces-reset}
 use Rattle.withdrawing.proofs.vacate.Statement.{statement}
 use Rattle.withdrawing.proofs.vacate.Tie as tie
 
 abbrev Inv-loop : tie.InvT-loop
-Inv-loop gone t₀ u₀ t u = (u ≤ 32) × (t ≡ mapBelow (λ v x. choose (flag gone v) noSpace x) u t₀)
+Inv-loop guest t₀ u₀ t u = (u ≤ 32) × (t ≡ mapBelow (λ v x. choose (isData guest x) noSpace x) u t₀)
 
 abbrev μ-loop : tie.MeasureT-loop
-μ-loop gone t₀ u₀ t u = 32 - u
+μ-loop guest t₀ u₀ t u = 32 - u
 
 loop-holds : tie.Need-loop-holds Inv-loop μ-loop
 loop-holds c = (omega arith, search maps)
@@ -25,8 +25,7 @@ loop-again : tie.Need-loop-again Inv-loop μ-loop
 loop-again c = (omega arith, search (maps, needs) depth 8)
 
 returns : tie.Need-returns Inv-loop μ-loop
-unfolding vacated
-returns c = search (maps, needs) depth 8
+returns c = spaces-reset _ _ _ (search (maps, needs) depth 8)
 
 pub vacate-spec : {M : Type 1} → statement M
 vacate-spec =
@@ -35,7 +34,6 @@ vacate-spec =
     Inv-loop
     μ-loop
     loop-holds
-    (λ c. search needs)
     (λ c. search needs)
     (λ c. search needs)
     (λ c κs. search needs)
