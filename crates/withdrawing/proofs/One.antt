@@ -16,12 +16,11 @@ use Rattle.lists.proofs.Maps.{mapBelow, map-alike, map-one, map-same}
 use Rattle.model.specs.declared.Entry.{Entry}
 use Rattle.model.specs.declared.Permit.{Permit}
 use Rattle.model.specs.declared.Space.{Space}
-use Rattle.model.specs.declared.Standing.{Standing}
-use Rattle.model.specs.declared.Standing.the-variants.{Unused, Valid, Revoked}
 use Rattle.model.specs.declared.State.{State}
-use Rattle.model.specs.Changes.{revokedFrom, revoked, listOwner, permitSlot, vacated, unpermitted, loses, revokedAll}
+use Rattle.model.specs.Changes.{revoked, listOwner, permitSlot, vacated, unpermitted, loses, revokedAll}
 use Rattle.model.specs.Tables.{noSpace, noPermit, unusedEntry, spaceAt, withPermits, withEntries}
 use Rattle.model.specs.SoundTest.{sound}
+use Rattle.model.proofs.Reset.{standing-stays}
 use Rattle.model.proofs.SoundTest.{sound-decides}
 use Rattle.withdrawing.proofs.Ranges.{map-map, mapRange, length-range, range-none, range-more}
 
@@ -88,13 +87,8 @@ absorbed true b = refl
 absorbed false b = refl
 
 none-revoked : (e : Entry) → revoked (λ v. false) e ≡ e
-unfolding revoked revokedFrom
-none-revoked e = ap (λ x. record { standing = x; sequence = e .sequence }) (go (e .standing))
-  where
-    go : (x : Standing) → revokedFrom (λ v. false) x ≡ x
-    go Unused = refl
-    go (Valid u r) = no! _ _ refl
-    go Revoked = refl
+unfolding revoked
+none-revoked e = ap (λ x. record { standing = x; sequence = e .sequence }) (standing-stays (λ v. false) (e .standing) (λ u r z. refl))
 
 module _ (ss : List Space) (u : ℕ) (es : List Entry) where
   pub lost-gone : length es ≡ 240 → mapPlaces (λ j e. choose (eqb (j / 30) 8) e (revoked (eqb u) e)) es ≡ revokedAll (loses ss (eqb u) (eqb u)) es

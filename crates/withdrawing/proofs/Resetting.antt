@@ -22,7 +22,6 @@ use Rattle.model.specs.declared.Standing.the-variants.{Unused, Valid, Revoked}
 use Rattle.model.specs.declared.State.{State}
 use Rattle.model.specs.Changes.{releasedFrom, released, revokedFrom, revoked, listOwner, releasedAll, vacated, unpermitted, loses, revokedAll, withdrawn, resetTables}
 use Rattle.model.specs.Leaves.{flag}
-use Rattle.model.specs.Names.{baseName}
 use Rattle.model.specs.Searches.{isOwned, isData}
 use Rattle.model.specs.Tables.{noSpace, unusedEntry, spaceAt, live, withSpaces, withPermits, withEntries}
 use Rattle.losses.specs.Looks.{namedSlot, lookPlace, revokedEntry}

@@ -1,20 +1,18 @@
--- The sets of slots that the three calls withdraw, as the tables that the code makes. Assumes nothing.
+-- The set of a guest's slots, as the table that the code makes. Assumes nothing.
 use Prim.Native.Nat.{ℕ, _+_, _≤_, _<_}
-use mathlib.Core.Bool.{Bool, true, false}
+use mathlib.Core.Bool.{Bool, false}
 use mathlib.Core.List.{List}
 use mathlib.Core.Path.{_≡_, refl, sym, ap, _∙_}
 use native.Mathlib.Decide.{decLe}
 use native.Mathlib.Omega.{arith}
-use lib.Dec.{eqb}
 use lib.ListN.{length, set, replicate, getD-replicate, List·getD-eq-default}
-use borrow.Author.Tests.{eqb-true, eq-eqb, ne-eqb}
-use Rattle.lists.proofs.Choice.{both-right, both-no}
-use Rattle.lists.proofs.Maps.{at-set, mapBelow, below-done, below-left}
+use Rattle.lists.proofs.Choice.{both-no}
+use Rattle.lists.proofs.Maps.{mapBelow, below-done, below-left}
 use Rattle.lists.proofs.Rules.{map-start, map-go}
 use Rattle.model.specs.declared.Space.{Space}
 use Rattle.model.specs.Leaves.{flag}
-use Rattle.model.specs.Searches.{isOwned, isData}
-use Rattle.model.specs.Tables.{noSpace, spaceAt, live}
+use Rattle.model.specs.Searches.{isOwned}
+use Rattle.model.specs.Tables.{noSpace, spaceAt}
 use Rattle.withdrawing.specs.Sets.{IsSet, slotsOf}
 
 -- no slot
@@ -60,7 +58,4 @@ module _ (f : Space → Bool) (ss : List Space) where
 pub none-owned : (g : ℕ) → isOwned g noSpace ≡ false
 none-owned g = both-no _ refl
 
-pub none-data : (g : ℕ) → isData g noSpace ≡ false
-none-data g = both-no _ (none-owned g)
-
-pub ruleset slots = (slots-start, slots-go, slot-is, slots-set, none-owned, none-data)
+pub ruleset slots = (slots-start, slots-go, slot-is, slots-set, none-owned)

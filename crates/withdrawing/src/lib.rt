@@ -24,6 +24,95 @@ use model::Reply;
 use model::Space;
 use model::State;
 
+// The change over one slot, whose space is destroyed or isolated: its eight permits go, and the lists below and above the one that
+// is kept lose their entries for it.
+fn withdraw_one(mut s: State, owner: usize, slot: u8, gone: bool) -> State
+    requires { ⌜ OneSlot s owner slot ⌝ }
+    ensures { λ r. ⌜ r ≡ applied s (choose gone (DestroySpace slot) (IsolateSpace slot)) ⌝ }
+{
+    let u = slot as usize;
+    let x = s.spaces[u];
+    s.spaces[u] = losses::space_unless(x, gone);
+    for k in u * 8..u * 8 + 8 {
+        s.permits[k] = losses::no_permit();
+    }
+    let kept = losses::kept_list(owner, gone);
+    for k in 0..kept * 30 {
+        let e = s.entries[k];
+        s.entries[k] = losses::entry_without(e, slot);
+    }
+    for k in kept * 30 + 30..240 {
+        let e = s.entries[k];
+        s.entries[k] = losses::entry_without(e, slot);
+    }
+    s
+}
+
+// Every valid entry for the space becomes revoked, its permits vanish, and its frames are free for use again.
+pub fn destroy(s: State, caller: Caller, id: u32) -> Reply
+    requires { ⌜ sound s ≡ true ⌝ }
+    ensures { λ r. ⌜ r ≡ replied s (judge s (callOf caller (Destroy id)) 0) ⌝ }
+{
+    let guests = s.guests;
+    let at = lookup::caller_place(guests, caller.guest);
+    if 8 <= at {
+        return Reply {
+            answer: Answer::BadCaller,
+            state: s,
+        };
+    }
+    let spaces = s.spaces;
+    let slot = match lookup::owned_space(spaces, caller.guest, id) {
+        Owned::Refused(refusal) => {
+            return Reply {
+                answer: refusal,
+                state: s,
+            };
+        }
+        Owned::At { slot } => slot,
+    };
+    let x = spaces[slot as usize];
+    if slots::is_base(x) {
+        return Reply {
+            answer: Answer::PrimarySpace,
+            state: s,
+        };
+    }
+    Reply {
+        answer: Answer::Done { value: 0 },
+        state: withdraw_one(s, at, slot, true),
+    }
+}
+
+// All permits for the space go, and with them other guests' entries for it; the owner's stay.
+pub fn isolate(s: State, caller: Caller, id: u32) -> Reply
+    requires { ⌜ sound s ≡ true ⌝ }
+    ensures { λ r. ⌜ r ≡ replied s (judge s (callOf caller (Isolate id)) 0) ⌝ }
+{
+    let guests = s.guests;
+    let at = lookup::caller_place(guests, caller.guest);
+    if 8 <= at {
+        return Reply {
+            answer: Answer::BadCaller,
+            state: s,
+        };
+    }
+    let spaces = s.spaces;
+    let slot = match lookup::owned_space(spaces, caller.guest, id) {
+        Owned::Refused(refusal) => {
+            return Reply {
+                answer: refusal,
+                state: s,
+            };
+        }
+        Owned::At { slot } => slot,
+    };
+    Reply {
+        answer: Answer::Done { value: 0 },
+        state: withdraw_one(s, at, slot, false),
+    }
+}
+
 // The slots of all spaces of a guest.
 fn owned_slots(spaces: [Space; 32], owner: u32) -> [bool; 33]
     ensures { λ r. ⌜ IsSet (slotsOf (isOwned owner) spaces) r ⌝ }
@@ -36,7 +125,7 @@ fn owned_slots(spaces: [Space; 32], owner: u32) -> [bool; 33]
     t
 }
 
-// What becomes of a slot where a guest is reset: its data spaces are destroyed.
+// What becomes of a slot where a guest is reset: it is emptied of a data space of the guest.
 fn space_reset(x: Space, guest: u32) -> Space
     ensures { λ r. ⌜ r ≡ choose (isData guest x) noSpace x ⌝ }
 {
@@ -79,95 +168,6 @@ fn clear_lists(entries: [Entry; 240], guest: u32, closed: [bool; 33]) -> [Entry;
         t[k] = losses::entry_reset(e, k / 30 + 1 == own, closed[u]);
     }
     t
-}
-
-// The change over one slot, whose space is destroyed or isolated. No set is made: eight permits go, and the lists below and above
-// the one that is kept lose their entries.
-fn withdraw_one(mut s: State, owner: usize, slot: u8, gone: bool) -> State
-    requires { ⌜ OneSlot s owner slot ⌝ }
-    ensures { λ r. ⌜ r ≡ applied s (choose gone (DestroySpace slot) (IsolateSpace slot)) ⌝ }
-{
-    let u = slot as usize;
-    let x = s.spaces[u];
-    s.spaces[u] = losses::space_unless(x, gone);
-    for k in u * 8..u * 8 + 8 {
-        s.permits[k] = losses::no_permit();
-    }
-    let kept = losses::kept_list(owner, gone);
-    for k in 0..kept * 30 {
-        let e = s.entries[k];
-        s.entries[k] = losses::entry_without(e, slot);
-    }
-    for k in kept * 30 + 30..240 {
-        let e = s.entries[k];
-        s.entries[k] = losses::entry_without(e, slot);
-    }
-    s
-}
-
-// Every valid entry for the space becomes revoked, its permits vanish, and its frames are free for use again.
-pub fn destroy(s: State, caller: Caller, id: u32) -> Reply
-    requires { ⌜ sound s ≡ true ⌝ }
-    ensures { λ r. ⌜ r ≡ replied s (judge s (callOf caller (Destroy id)) 0) ⌝ }
-{
-    let guests = s.guests;
-    let at = lookup::caller_place(guests, caller.guest);
-    if 8 <= at {
-        return Reply {
-            answer: Answer::BadCaller,
-            state: s,
-        };
-    }
-    let spaces = s.spaces;
-    let u = match lookup::owned_space(spaces, caller.guest, id) {
-        Owned::Refused(refusal) => {
-            return Reply {
-                answer: refusal,
-                state: s,
-            };
-        }
-        Owned::At { slot } => slot,
-    };
-    let x = spaces[u as usize];
-    if slots::is_base(x) {
-        return Reply {
-            answer: Answer::PrimarySpace,
-            state: s,
-        };
-    }
-    Reply {
-        answer: Answer::Done { value: 0 },
-        state: withdraw_one(s, at, u, true),
-    }
-}
-
-// All permits for the space go, and with them other guests' entries for it; the owner's stay.
-pub fn isolate(s: State, caller: Caller, id: u32) -> Reply
-    requires { ⌜ sound s ≡ true ⌝ }
-    ensures { λ r. ⌜ r ≡ replied s (judge s (callOf caller (Isolate id)) 0) ⌝ }
-{
-    let guests = s.guests;
-    let at = lookup::caller_place(guests, caller.guest);
-    if 8 <= at {
-        return Reply {
-            answer: Answer::BadCaller,
-            state: s,
-        };
-    }
-    let spaces = s.spaces;
-    let u = match lookup::owned_space(spaces, caller.guest, id) {
-        Owned::Refused(refusal) => {
-            return Reply {
-                answer: refusal,
-                state: s,
-            };
-        }
-        Owned::At { slot } => slot,
-    };
-    Reply {
-        answer: Answer::Done { value: 0 },
-        state: withdraw_one(s, at, u, false),
-    }
 }
 
 // The caller's data spaces are destroyed, its primary space is isolated, and all its entries become unused.

@@ -1,6 +1,5 @@
 -- `losses::look_place` meets its contract. Assumes nothing.
 use borrow.Author.Needs.{needs}
-use Rattle.losses.specs.Looks.{lookPlace}
 use Rattle.losses.proofs.Looks.{looks}
 use Rattle.losses.proofs.look_place.Statement.{statement}
 use Rattle.losses.proofs.look_place.Tie as tie
