@@ -8,7 +8,7 @@ use native.Mathlib.Omega.{arith}
 use lib.Dec.{eqb, ltb}
 use lib.ListN.{length, set, getD}
 use lib.Seq.{set-getD}
-use borrow.Author.Tests.{eqb-true, eqb-false, eq-eqb, ne-eqb, lt-ltb, le-ltb}
+use borrow.Author.Tests.{eqb-true, eqb-false, eq-eqb, ne-eqb}
 use Rattle.lists.specs.Choice.{choose, both, either}
 use Rattle.lists.specs.Places.{mapPlaces}
 use Rattle.lists.proofs.Choice.{yes!, no!, both-when, both-comm, both-yes, both-not, choose-elim}
@@ -22,7 +22,7 @@ use Rattle.model.specs.Tables.{noSpace, noPermit, unusedEntry, spaceAt, withPer
 use Rattle.model.specs.SoundTest.{sound}
 use Rattle.model.proofs.Reset.{standing-stays}
 use Rattle.model.proofs.SoundTest.{sound-decides}
-use Rattle.withdrawing.proofs.Ranges.{map-map, mapRange, length-range, range-none, range-more}
+use Rattle.withdrawing.proofs.Ranges.{map-map, mapRange, before, inside, beyond, length-range, range-none, range-more}
 
 -- The slot: it is emptied, or stays as it was.
 module _ (ss : List Space) (u : ℕ) where
@@ -43,12 +43,9 @@ unfolding mapRange mapBelow unpermitted
 permits-gone ps u k e = map-alike _ _ ps (λ j p b. go j p (decLe (u * 8) j) (decLe k j))
   where
     go : (j : ℕ) (p : Permit) → Dec (u * 8 ≤ j) → Dec (k ≤ j) → choose (ltb j k) (choose (ltb j (u * 8)) p noPermit) p ≡ choose (eqb u (permitSlot j)) noPermit p
-    go j p (yes l) (yes m) = no! _ _ (le-ltb j k m) ∙ sym (no! _ _ (ne-eqb u (j / 8) (λ z. omega arith)))
-    go j p (yes l) (no m) = yes! _ _ (lt-ltb j k (omega arith)) ∙ no! _ _ (le-ltb j (u * 8) l) ∙ sym (yes! _ _ (eq-eqb u (j / 8) (omega arith)))
-    go j p (no l) d = choose-elim (λ x. x ≡ choose (eqb u (permitSlot j)) noPermit p) (ltb j k) _ p (λ z. yes! _ _ (lt-ltb j (u * 8) (omega arith)) ∙ out) (λ z. out)
-      where
-        out : p ≡ choose (eqb u (permitSlot j)) noPermit p
-        out = sym (no! _ _ (ne-eqb u (j / 8) (λ z. omega arith)))
+    go j p (no l) d = before (λ j p. noPermit) (u * 8) k j p (omega arith) ∙ sym (no! _ _ (ne-eqb u (j / 8) (λ z. omega arith)))
+    go j p (yes l) (no m) = inside (λ j p. noPermit) (u * 8) k j p l (omega arith) ∙ sym (yes! _ _ (eq-eqb u (j / 8) (omega arith)))
+    go j p (yes l) (yes m) = beyond (λ j p. noPermit) (u * 8) k j p m ∙ sym (no! _ _ (ne-eqb u (j / 8) (λ z. omega arith)))
 
 -- The entries of all lists but one change.
 pub lists-but : (f : Entry → Entry) (es : List Entry) (kept m n : ℕ) → length es ≡ 240 → m ≡ kept * 30 → 240 ≤ n
@@ -64,20 +61,16 @@ lists-but f es kept m n len q h = map-map _ _ es ∙ map-alike _ _ es (λ j e b.
 
     go : (j : ℕ) (e : Entry) → j < 240 → Dec (kept * 30 ≤ j) → Dec (kept * 30 + 30 ≤ j) → second j (first j e) ≡ choose (eqb (j / 30) kept) e (f e)
     go j e b (no l) d =
-        yes! _ _ (lt-ltb j n (omega arith))
-        ∙ yes! _ _ (lt-ltb j (kept * 30 + 30) (omega arith))
-        ∙ yes! _ _ (lt-ltb j m (omega arith))
-        ∙ no! _ _ (le-ltb j 0 (omega arith))
+        before (λ j. f) (kept * 30 + 30) n j (first j e) (omega arith)
+        ∙ inside (λ j. f) 0 m j e (omega arith) (omega arith)
         ∙ sym (no! _ _ (ne-eqb (j / 30) kept (λ z. omega arith)))
     go j e b (yes l) (no d) =
-        yes! _ _ (lt-ltb j n (omega arith))
-        ∙ yes! _ _ (lt-ltb j (kept * 30 + 30) (omega arith))
-        ∙ no! _ _ (le-ltb j m (omega arith))
+        before (λ j. f) (kept * 30 + 30) n j (first j e) (omega arith)
+        ∙ beyond (λ j. f) 0 m j e (omega arith)
         ∙ sym (yes! _ _ (eq-eqb (j / 30) kept (omega arith)))
     go j e b (yes l) (yes d) =
-        yes! _ _ (lt-ltb j n (omega arith))
-        ∙ no! _ _ (le-ltb j (kept * 30 + 30) d)
-        ∙ ap f (no! _ _ (le-ltb j m (omega arith)))
+        inside (λ j. f) (kept * 30 + 30) n j (first j e) d (omega arith)
+        ∙ ap f (beyond (λ j. f) 0 m j e (omega arith))
         ∙ sym (no! _ _ (ne-eqb (j / 30) kept (λ z. omega arith)))
 
 -- Whose entries are lost: everyone's for a destroyed space, and for an isolated one everyone's but the owner's.

@@ -2,9 +2,11 @@
 use Prim.Native.Nat.{ℕ, _+_, _≤_, _<_}
 use mathlib.Core.List.{List, [], _∷_}
 use mathlib.Core.Path.{_≡_, refl, sym, ap, _∙_}
+use native.Mathlib.Decide.{decLe}
+use native.Mathlib.Omega.{arith}
 use lib.Dec.{ltb}
 use lib.ListN.{length, getD, set}
-use borrow.Author.Tests.{le-ltb}
+use borrow.Author.Tests.{lt-ltb, le-ltb}
 use Rattle.lists.specs.Choice.{choose}
 use Rattle.lists.specs.Places.{mapFrom, mapPlaces}
 use Rattle.lists.proofs.Choice.{yes!, no!, choose-elim}
@@ -23,6 +25,17 @@ module _ {A : Type 0} where
   unfoldable pub mapRange : (ℕ → A → A) → (i k : ℕ) → List A → List A
   mapRange f i k l = mapBelow (λ j x. choose (ltb j i) x (f j x)) k l
 
+  -- what is made of one place: it lies before the range, in it or after it
+  module _ (f : ℕ → A → A) (i k j : ℕ) (x : A) where
+    pub before : j < i → choose (ltb j k) (choose (ltb j i) x (f j x)) x ≡ x
+    before l = choose-elim (λ y. y ≡ x) (ltb j k) _ x (λ _. yes! _ _ (lt-ltb j i l)) (λ _. refl)
+
+    pub inside : i ≤ j → j < k → choose (ltb j k) (choose (ltb j i) x (f j x)) x ≡ f j x
+    inside l h = yes! _ _ (lt-ltb j k h) ∙ no! _ _ (le-ltb j i l)
+
+    pub beyond : k ≤ j → choose (ltb j k) (choose (ltb j i) x (f j x)) x ≡ x
+    beyond l = no! _ _ (le-ltb j k l)
+
   module _ (f : ℕ → A → A) (i : ℕ) (l : List A) where
     pub length-range : (k : ℕ) → length (mapRange f i k l) ≡ length l
     unfolding mapRange
@@ -31,9 +44,11 @@ module _ {A : Type 0} where
     -- before the first turn
     pub range-none : l ≡ mapRange f i i l
     unfolding mapRange mapBelow
-    range-none =
-        sym
-        (map-alike _ (λ k x. x) l (λ k x b. choose-elim (λ y. y ≡ x) (ltb k i) _ x (λ e. yes! _ _ e) (λ e. refl)) ∙ map-nothing l)
+    range-none = sym (map-alike _ (λ k x. x) l (λ k x b. go k x (decLe i k)) ∙ map-nothing l)
+      where
+        go : (k : ℕ) (x : A) → Dec (i ≤ k) → choose (ltb k i) (choose (ltb k i) x (f k x)) x ≡ x
+        go k x (yes h) = beyond f i i k x h
+        go k x (no h) = before f i i k x (omega arith)
 
     -- one turn
     pub range-more : (t : List A) (k : ℕ) (x d : A) → t ≡ mapRange f i k l → x ≡ f k (getD t k d) → i ≤ k → k < length l → set t k x ≡ mapRange f i (k + 1) l
