@@ -1,5 +1,5 @@
 -- Pairs of digits become bytes. Assumes nothing.
-use Prim.Native.Nat.{ℕ, zero, suc, _+_, _*_, _/_, _≤_, _<_}
+use Prim.Native.Nat.{ℕ, zero, suc, _+_, _*_, _/_, _%_, _≤_, _<_}
 use mathlib.Core.Bool.{true}
 use mathlib.Core.List.{List, [], _∷_}
 use mathlib.Core.Path.{_≡_, refl, ap, ap₂, _∙_}
@@ -43,23 +43,24 @@ pub record Decoded (f o t : List ℕ) (i : ℕ) : Type 0 where
 pub decoded-none : (f o : List ℕ) → hexDigits f ≡ true → length f / 2 ≤ length o → Decoded f o o 0
 decoded-none f o d r = record { digits = d; room = r; most = omega arith; long = refl; is = copy-none o (hexBytes f) }
 
-pub decoded-first : (f o t : List ℕ) (i : ℕ) → Decoded f o t i → i < length f / 2 → hexDigit (getD f (i + i) 0) ≡ true
-decoded-first f o t i d h = digit-at f (i + i) (d .digits) (omega arith)
+-- the next two digits, as one number x
+module _ (f o t : List ℕ) (i x : ℕ) (d : Decoded f o t i) (h : i < length f / 2) where
+  pub decoded-first : x % 256 ≡ getD f (i + i) 0 → hexDigit (x % 256) ≡ true
+  decoded-first p = ap hexDigit p ∙ digit-at f (i + i) (d .digits) (omega arith)
 
-pub decoded-second : (f o t : List ℕ) (i : ℕ) → Decoded f o t i → i < length f / 2 → hexDigit (getD f (i + i + 1) 0) ≡ true
-decoded-second f o t i d h = digit-at f (i + i + 1) (d .digits) (omega arith)
+  pub decoded-second : x / 256 ≡ getD f (i + i + 1) 0 → hexDigit (x / 256) ≡ true
+  decoded-second p = ap hexDigit p ∙ digit-at f (i + i + 1) (d .digits) (omega arith)
 
-pub decoded-turn : (f o t : List ℕ) (i x y : ℕ) → Decoded f o t i → i < length f / 2 → x ≡ hexValue (getD f (i + i) 0) → y ≡ hexValue (getD f (i + i + 1) 0)
-    → Decoded f o (set t i (x * 16 + y)) (i + 1)
-decoded-turn f o t i x y d h p q = record {
-  digits = d .digits;
-  room = d .room;
-  most = omega arith;
-  long = length-set t i (x * 16 + y) ∙ d .long;
-  is =
-      copy-turn o (hexBytes f) t i (x * 16 + y) 0 (d .is) (omega (arith, bytes-length f)) (omega (arith, d .room))
-      (ap₂ (λ a b. a * 16 + b) p q ∙ byte-at f i (omega arith));
-}
+  pub decoded-turn : (y : ℕ) → x % 256 ≡ getD f (i + i) 0 → x / 256 ≡ getD f (i + i + 1) 0 → y ≡ hexValue (x % 256) * 16 + hexValue (x / 256) → Decoded f o (set t i y) (i + 1)
+  decoded-turn y p q e = record {
+    digits = d .digits;
+    room = d .room;
+    most = omega arith;
+    long = length-set t i y ∙ d .long;
+    is =
+        copy-turn o (hexBytes f) t i y 0 (d .is) (omega (arith, bytes-length f)) (omega (arith, d .room))
+        (e ∙ ap₂ (λ a b. hexValue a * 16 + hexValue b) p q ∙ byte-at f i (omega arith));
+  }
 
 pub decoded-end : (f o t : List ℕ) (i : ℕ) → Decoded f o t i → length f / 2 ≤ i → t ≡ over o 0 (hexBytes f)
 decoded-end f o t i d h = d .is ∙ ap (over o 0) (part-all (hexBytes f) i (omega (arith, bytes-length f)))

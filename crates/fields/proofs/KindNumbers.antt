@@ -1,21 +1,33 @@
 -- The kinds of fields as numbers, and what a field of each kind spells. Assumes nothing.
-use Prim.Native.Nat.{ℕ, _≤_}
+use Prim.Native.Nat.{ℕ, _%_, _≤_, _<_}
 use mathlib.Core.List.{List}
 use mathlib.Core.Path.{_≡_, refl, sym, ap, _∙_}
 use native.Mathlib.Omega.{arith}
-use borrow.Author.Tests.{ne-eqb}
+use borrow.Author.Tests.{le-leb, lt-leb, eq-eqb, ne-eqb}
 use Rattle.lists.specs.Choice.{choose}
-use Rattle.lists.proofs.Choice.{no! }
-use Rattle.model.specs.Lines.{FieldKind, number, name, right, hex, fieldOf, numberField, nameField, rightField, hexField}
+use Rattle.lists.proofs.Choice.{yes!, no! }
+use Rattle.model.specs.Lines.{FieldKind, number, name, right, hex, fieldOf, numberField, nameField, rightField}
 use Rattle.fields.specs.declared.Field.{Field}
-use Rattle.fields.specs.Fields.{asField, kindNumber, kindOf}
+use Rattle.fields.specs.Fields.{found, kindNumber, shortKind}
 
-pub kind-is : (k : FieldKind) → kindOf (kindNumber k) ≡ k
-unfolding kindOf kindNumber choose
-kind-is number = refl
-kind-is name = refl
-kind-is right = refl
-kind-is hex = refl
+-- all kinds but data are known by their numbers modulo 4, which is 0 for data
+pub kind-is : (k : FieldKind) → (kindNumber k % 4 ≡ 0 → ⊥) → shortKind (kindNumber k % 4) ≡ k
+unfolding shortKind kindNumber choose
+kind-is number n = refl
+kind-is name n = refl
+kind-is right n = refl
+kind-is hex n = absurd (n refl)
+
+pub kind-data : (k : FieldKind) → kindNumber k % 4 ≡ 0 → k ≡ hex
+unfolding kindNumber
+kind-data number e = absurd (omega arith)
+kind-data name e = absurd (omega arith)
+kind-data right e = absurd (omega arith)
+kind-data hex e = refl
+
+pub data-kind : (k : FieldKind) → k ≡ hex → kindNumber k % 4 ≡ 0
+unfolding kindNumber
+data-kind k e = rw e
 
 pub kind-small : (k : FieldKind) → (1 ≤ kindNumber k) × (kindNumber k ≤ 4)
 unfolding kindNumber
@@ -25,19 +37,17 @@ kind-small right = omega arith
 kind-small hex = omega arith
 
 -- by the number that the code tests
-pub field-number : (r : Field) (k : ℕ) (f : List ℕ) → k ≡ 1 → r ≡ asField (numberField f) → r ≡ asField (fieldOf (kindOf k) f)
-unfolding fieldOf kindOf choose
-field-number r k f e p = rw e p
+module _ (r : Field) (k : ℕ) (f : List ℕ) (e : ℕ) where
+  pub field-number : k ≤ 1 → r ≡ found (numberField f) e → r ≡ found (fieldOf (shortKind k) f) e
+  unfolding fieldOf shortKind
+  field-number h p = p ∙ ap (λ x. found (fieldOf x f) e) (sym (yes! _ _ (le-leb k 1 h)))
 
-pub field-name : (r : Field) (k : ℕ) (f : List ℕ) → k ≡ 2 → r ≡ asField (nameField f) → r ≡ asField (fieldOf (kindOf k) f)
-unfolding fieldOf kindOf choose
-field-name r k f e p = rw e p
+  pub field-name : 1 < k → k ≡ 2 → r ≡ found (nameField f) e → r ≡ found (fieldOf (shortKind k) f) e
+  unfolding fieldOf shortKind
+  field-name h y p =
+      p ∙ ap (λ x. found (fieldOf x f) e) (sym (no! _ _ (lt-leb k 1 h) ∙ yes! _ _ (eq-eqb k 2 y)))
 
-pub field-right : (r : Field) (k : ℕ) (f : List ℕ) → k ≡ 3 → r ≡ asField (rightField f) → r ≡ asField (fieldOf (kindOf k) f)
-unfolding fieldOf kindOf choose
-field-right r k f e p = rw e p
-
-pub field-hex : (r : Field) (k : ℕ) (f : List ℕ) → (k ≡ 1 → ⊥) → (k ≡ 2 → ⊥) → (k ≡ 3 → ⊥) → r ≡ asField (hexField f) → r ≡ asField (fieldOf (kindOf k) f)
-unfolding fieldOf kindOf
-field-hex r k f a b c p =
-    p ∙ ap (λ x. asField (fieldOf x f)) (sym (no! _ _ (ne-eqb k 1 a) ∙ no! _ _ (ne-eqb k 2 b) ∙ no! _ _ (ne-eqb k 3 c)))
+  pub field-right : 1 < k → (k ≡ 2 → ⊥) → r ≡ found (rightField f) e → r ≡ found (fieldOf (shortKind k) f) e
+  unfolding fieldOf shortKind
+  field-right h n p =
+      p ∙ ap (λ x. found (fieldOf x f) e) (sym (no! _ _ (lt-leb k 1 h) ∙ no! _ _ (ne-eqb k 2 n)))

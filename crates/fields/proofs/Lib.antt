@@ -1,5 +1,8 @@
 -- Laws of one field.
+pub mod FieldEnds
 pub mod KindNumbers
-pub mod Turns
 pub mod Spelling
+pub mod Bytewise
+pub mod Readings
+pub mod HexDigits
 pub mod Decoding

@@ -1,19 +1,19 @@
-// One field of a line, read where it stands: what it spells is `fieldOf` of the model. And the bytes that hexadecimal digits
-// spell, `hexBytes`.
-ghost use Prim.Native.Nat.{_+_, _-_, _/_, _^_, _≤_, _<_};
+// One field of a line, read where it stands, in one pass: what it spells is `fieldOf` of the model. And the bytes that
+// hexadecimal digits spell, `hexBytes`.
+ghost use Prim.Native.Nat.{_+_, _-_, _*_, _/_, _%_, _^_, _≤_, _<_};
 ghost use mathlib.Core.Bool.{true, not};
 ghost use mathlib.Core.Path.{_≡_};
-ghost use lib.Dec.{leb};
-ghost use lib.ListN.{length, drop, replicate};
+ghost use lib.Dec.{eqb, leb};
+ghost use lib.ListN.{length, drop, getD, replicate};
 ghost use Rattle.lists.specs.Bytes.{over};
-ghost use Rattle.lists.specs.Choice.{both};
 ghost use Rattle.lists.specs.Places.{oneIf};
-ghost use Rattle.model.specs.Lines.{spelt, digits, decimalFrom, numberField, noBlank, packed, packedName, nameField, rightField, hexDigit, hexValue, hexDigits, hexBytes, hexField, fieldOf};
-ghost use Rattle.fields.specs.Fields.{asField, kindOf, othersInBlock};
+ghost use Rattle.model.specs.Lines.{spelt, numberField, packed, nameField, rightField, hexDigit, hexValue, hexDigits, hexBytes, hexField, fieldOf};
+ghost use Rattle.fields.specs.Fields.{fieldFrom, endFrom, found, wordField, shortKind, othersInBlock};
 
-// What a field spells: a number, a name as one number, a right as 0 or 1, or how many bytes of data.
+// What a field spells, and where it ends. It spells a number, a name as one number, a right as 0 or 1, or how many bytes of
+// data.
 pub enum Field {
-    Is(u64),
+    Is { value: u64, end: usize },
     Bad,
 }
 
@@ -23,46 +23,71 @@ fn wide(b: u8) -> u64
     b as u64
 }
 
-// Ten digits at most, so that the sum needs no test at each digit.
-fn decimal(f: &[u8]) -> Field
-    requires { ⌜ length (now f) ≤ 10 ⌝ }
-    ensures { λ r. ⌜ r ≡ asField (spelt (both (digits (now (f .entry))) (leb (decimalFrom 0 (now (f .entry))) 4294967295)) (decimalFrom 0 (now (f .entry)))) ⌝ }
+// Whether a field ends before the byte at i: at a tab, or where the line ends.
+fn ends(line: &[u8], i: usize) -> bool
+    ensures { λ r. ⌜ r ≡ eqb (length (fieldFrom (now (line .entry)) i)) 0 ⌝ }
 {
-    let mut v: u64 = 0;
-    let mut i: usize = 0;
-    while i < f.len() {
-        let b = f[i];
-        if b < 48 {
-            return Field::Bad;
-        }
-        if 57 < b {
-            return Field::Bad;
-        }
-        v = v * 10 + wide(b - 48);
-        i += 1;
+    if i < line.len() {
+        return line[i] == 9;
     }
+    true
+}
+
+fn within(v: u64, end: usize) -> Field
+    ensures { λ r. ⌜ r ≡ found (spelt (leb v 4294967295) v) end ⌝ }
+{
     if 4294967295 < v {
         return Field::Bad;
     }
-    Field::Is(v)
+    Field::Is { value: v, end: end }
 }
 
-fn number(f: &[u8]) -> Field
-    ensures { λ r. ⌜ r ≡ asField (numberField (now (f .entry))) ⌝ }
+// A number that starts with a digit other than 0. Its value is tested at each digit, before the digit can make it too large.
+fn digits(line: &[u8], start: usize) -> Field
+    requires { ⌜ (start < length (now line)) × (48 < getD (now line) start 0) × (getD (now line) start 0 ≤ 57) ⌝ }
+    ensures { λ r. ⌜ r ≡ found (numberField (fieldFrom (now (line .entry)) start)) (endFrom (now (line .entry)) start) ⌝ }
 {
-    if f.len() == 0 {
-        return Field::Bad;
-    }
-    if 10 < f.len() {
-        return Field::Bad;
-    }
-    if 1 < f.len() {
-        if f[0] == 48 {
+    let mut v = wide(line[start] - 48);
+    let mut i = start + 1;
+    while i < line.len() {
+        let b = line[i];
+        let d = std::num::wrapping_sub_u8(b, 48);
+        if 9 < d {
+            if b == 9 {
+                return within(v, i);
+            }
             return Field::Bad;
         }
-        return decimal(f);
+        if 429496729 < v {
+            return Field::Bad;
+        }
+        v = v * 10 + wide(d);
+        i += 1;
     }
-    decimal(f)
+    within(v, i)
+}
+
+fn number(line: &[u8], start: usize) -> Field
+    ensures { λ r. ⌜ r ≡ found (numberField (fieldFrom (now (line .entry)) start)) (endFrom (now (line .entry)) start) ⌝ }
+{
+    if line.len() <= start {
+        return Field::Bad;
+    }
+    let b = line[start];
+    if b < 48 {
+        return Field::Bad;
+    }
+    if 57 < b {
+        return Field::Bad;
+    }
+    if b == 48 {
+        let end = start + 1;
+        if ends(line, end) {
+            return Field::Is { value: 0, end: end };
+        }
+        return Field::Bad;
+    }
+    digits(line, start)
 }
 
 // Blanks after the n bytes in v, up to eight.
@@ -79,48 +104,94 @@ fn padded(v: u64, n: usize) -> u64
     p
 }
 
-fn letters(f: &[u8]) -> Field
-    requires { ⌜ length (now f) ≤ 8 ⌝ }
-    ensures { λ r. ⌜ (r ≡ asField (spelt (noBlank (now (f .entry))) (packedName (now (f .entry))))) ⌝ }
+fn named(v: u64, n: usize, end: usize) -> Field
+    requires { ⌜ (n ≤ 8) × (v < 256 ^ n) ⌝ }
+    ensures { λ r. ⌜ r ≡ found (spelt (leb 1 n) (packed v (replicate (8 - n) 32))) end ⌝ }
+{
+    if n == 0 {
+        return Field::Bad;
+    }
+    Field::Is {
+        value: padded(v, n),
+        end: end,
+    }
+}
+
+fn name(line: &[u8], start: usize) -> Field
+    requires { ⌜ start ≤ length (now line) ⌝ }
+    ensures { λ r. ⌜ r ≡ found (nameField (fieldFrom (now (line .entry)) start)) (endFrom (now (line .entry)) start) ⌝ }
 {
     let mut v: u64 = 0;
-    let mut i: usize = 0;
-    while i < f.len() {
-        let b = f[i];
+    let mut i = start;
+    while i < line.len() {
+        let b = line[i];
+        if b == 9 {
+            return named(v, i - start, i);
+        }
         if b == 32 {
+            return Field::Bad;
+        }
+        if 7 < i - start {
             return Field::Bad;
         }
         v = v * 256 + wide(b);
         i += 1;
     }
-    Field::Is(padded(v, i))
+    named(v, i - start, i)
 }
 
-pub fn name(f: &[u8]) -> Field
-    ensures { λ r. ⌜ r ≡ asField (nameField (now (f .entry))) ⌝ }
+// The first field of a line, as a call's name.
+pub fn word(line: &[u8]) -> Field
+    ensures { λ r. ⌜ r ≡ found (wordField (fieldFrom (now (line .entry)) 0)) (endFrom (now (line .entry)) 0) ⌝ }
 {
-    if f.len() == 0 {
-        return Field::Bad;
-    }
-    if 8 < f.len() {
-        return Field::Bad;
-    }
-    letters(f)
-}
-
-fn right(f: &[u8]) -> Field
-    ensures { λ r. ⌜ r ≡ asField (rightField (now (f .entry))) ⌝ }
-{
-    if f.len() == 1 {
-        if f[0] == 82 {
-            return Field::Is(0);
+    let mut v: u64 = 1;
+    let mut i: usize = 0;
+    while i < line.len() {
+        let b = line[i];
+        if b == 9 {
+            return Field::Is { value: v, end: i };
         }
-        if f[0] == 87 {
-            return Field::Is(1);
+        if i == 7 {
+            return Field::Bad;
+        }
+        v = v * 256 + wide(b);
+        i += 1;
+    }
+    Field::Is { value: v, end: i }
+}
+
+fn right(line: &[u8], start: usize) -> Field
+    ensures { λ r. ⌜ r ≡ found (rightField (fieldFrom (now (line .entry)) start)) (endFrom (now (line .entry)) start) ⌝ }
+{
+    if line.len() <= start {
+        return Field::Bad;
+    }
+    let b = line[start];
+    let end = start + 1;
+    if ends(line, end) {
+        if b == 82 {
+            return Field::Is { value: 0, end: end };
+        }
+        if b == 87 {
+            return Field::Is { value: 1, end: end };
         }
         return Field::Bad;
     }
     Field::Bad
+}
+
+// The field that starts at a place. Kinds are 1 a number, 2 a name, and 3 a right; data are read by `data`.
+pub fn read_field(kind: u64, line: &[u8], start: usize) -> Field
+    requires { ⌜ start ≤ length (now line) ⌝ }
+    ensures { λ r. ⌜ r ≡ found (fieldOf (shortKind kind) (fieldFrom (now (line .entry)) start)) (endFrom (now (line .entry)) start) ⌝ }
+{
+    if kind <= 1 {
+        return number(line, start);
+    }
+    if kind == 2 {
+        return name(line, start);
+    }
+    right(line, start)
 }
 
 fn hex_digit(b: u8) -> bool
@@ -141,10 +212,14 @@ fn hex_digit(b: u8) -> bool
     false
 }
 
+// A byte that is no digit, as a number. Both tests are of one range each, where the sum wraps.
 fn one_if_other(b: u8) -> u8
     ensures { λ r. ⌜ r ≡ oneIf (not (hexDigit b)) ⌝ }
 {
-    if hex_digit(b) {
+    if std::num::wrapping_sub_u8(b, 48) < 10 {
+        return 0;
+    }
+    if std::num::wrapping_sub_u8(b, 65) < 6 {
         return 0;
     }
     1
@@ -189,9 +264,9 @@ fn all_hex(f: &[u8]) -> bool
     true
 }
 
-// Data are checked and counted here, and decoded by `decode` once the whole line is read.
-fn hex(f: &[u8]) -> Field
-    ensures { λ r. ⌜ r ≡ asField (hexField (now (f .entry))) ⌝ }
+// Data, which run to the line's end: a tab is no digit. They are checked and counted here, and decoded by `decode`.
+pub fn data_field(f: &[u8]) -> Field
+    ensures { λ r. ⌜ r ≡ found (hexField (now (f .entry))) (length (now (f .entry))) ⌝ }
 {
     if f.len() % 2 == 1 {
         return Field::Bad;
@@ -200,35 +275,42 @@ fn hex(f: &[u8]) -> Field
         return Field::Bad;
     }
     if all_hex(f) {
-        return Field::Is((f.len() / 2) as u64);
+        let n = f.len();
+        return Field::Is {
+            value: (n / 2) as u64,
+            end: n,
+        };
     }
     Field::Bad
 }
 
-// Kinds are 1 a number, 2 a name, 3 a right, and any other data.
-pub fn read_field(kind: u64, f: &[u8]) -> Field
-    ensures { λ r. ⌜ r ≡ asField (fieldOf (kindOf kind) (now (f .entry))) ⌝ }
+fn wide16(b: u8) -> u16
+    ensures { λ r. ⌜ (r ≡ b) × (r < 256) ⌝ }
 {
-    if kind == 1 {
-        return number(f);
-    }
-    if kind == 2 {
-        return name(f);
-    }
-    if kind == 3 {
-        return right(f);
-    }
-    hex(f)
+    b as u16
 }
 
-fn hex_value(b: u8) -> u8
+// Two digits at once, the first lower: the compiler reads them as one number, and decodes many pairs at a time.
+fn pair(f: &[u8], i: usize) -> u16
+    requires { ⌜ i + i + 1 < length (now f) ⌝ }
+    ensures { λ r. ⌜ (r % 256 ≡ getD (now (f .entry)) (i + i) 0) × (r / 256 ≡ getD (now (f .entry)) (i + i + 1) 0) ⌝ }
+{
+    wide16(f[i + i]) + wide16(f[i + i + 1]) * 256
+}
+
+// The lower four bits, and 9 more for a letter, which has bit 6.
+fn hex_value(b: u16) -> u16
     requires { ⌜ hexDigit b ≡ true ⌝ }
     ensures { λ r. ⌜ (r ≡ hexValue b) × (r ≤ 15) ⌝ }
 {
-    if b < 58 {
-        return b - 48;
-    }
-    b - 55
+    b % 16 + b / 64 * 9
+}
+
+fn byte_of(digits: u16) -> u8
+    requires { ⌜ (hexDigit (digits % 256) ≡ true) × (hexDigit (digits / 256) ≡ true) ⌝ }
+    ensures { λ r. ⌜ r ≡ hexValue (digits % 256) * 16 + hexValue (digits / 256) ⌝ }
+{
+    (hex_value(digits % 256) * 16 + hex_value(digits / 256)) as u8
 }
 
 // The bytes that pairs of digits spell, over the first of `out`.
@@ -239,7 +321,7 @@ pub fn decode(f: &[u8], out: &mut [u8])
     let n = f.len() / 2;
     let mut i: usize = 0;
     while i < n {
-        out[i] = hex_value(f[i + i]) * 16 + hex_value(f[i + i + 1]);
+        out[i] = byte_of(pair(f, i));
         i += 1;
     }
 }

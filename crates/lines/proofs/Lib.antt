@@ -2,8 +2,8 @@
 pub mod Tables
 pub mod Values
 pub mod Cuts
+pub mod Storing
 pub mod Taken
 pub mod Words
 pub mod Line
 pub mod Stored
-pub mod StoreRequests

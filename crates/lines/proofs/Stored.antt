@@ -14,8 +14,9 @@ use Rattle.lists.proofs.Choice.{yes!, no!, true-false, both-left, both-right}
 use Rattle.model.specs.declared.Request.{Request}
 use Rattle.model.specs.declared.Request.the-variants.{NotRead}
 use Rattle.model.specs.Lines.{fields, is, hexDigits, hexField, hexBytes, number, hex, fieldOf, Values, values, unread, readFields, Form, forms, at, sameBytes, makeBy, readBy, readAll, readLine, stores, lengthOf, dataOf}
-use Rattle.lines.specs.Fields.{later}
-use Rattle.lines.proofs.Cuts.{last-field}
+use Rattle.lines.specs.Fields.{DataAt}
+use Rattle.lines.proofs.Cuts.{last-of-five}
+use Rattle.lines.proofs.Storing.{Storing, never, last, Each, none, and, each}
 use Rattle.fields.proofs.Decoding.{bytes-length}
 use Rattle.fields.proofs.Spelling.{spelt-is}
 use Rattle.lines.proofs.Values.{first-of, none-of}
@@ -40,27 +41,14 @@ four-fields fs vs e =
     let v : vs ≡ a .value ∷ b .value ∷ c .value ∷ d .value ∷ d .others = cc in
     record { caller = a .field; register = b .field; address = c .field; hexes = d .field; are = f; count = d .spells ∙ ap is (sym (ap (λ l. at l 3) v)) }
 
--- of all forms one makes requests to store
-data Storing (f : Form) : Type 0 where
-  never : ((v : List ℕ) → stores (f .make v) ≡ false) → Storing f
-  last : f .kinds ≡ number ∷ number ∷ number ∷ hex ∷ [] → ((v : List ℕ) → lengthOf (f .make v) ≡ at v 3) → Storing f
-
-data Each : List Form → Type 0 where
-  none : Each []
-  and : {f : Form} {fs : List Form} → Storing f → Each fs → Each (f ∷ fs)
-
-each : Each forms
-unfolding forms stores lengthOf
-each = search (none, and, never, last, refl) depth 40
-
 store-form : (f : Form) (fs : List (List ℕ)) → Storing f → stores (makeBy (f .make) (readFields (f .kinds) fs)) ≡ true → Store fs (lengthOf (makeBy (f .make) (readFields (f .kinds) fs)))
 unfolding makeBy stores
 store-form f fs s y = go (readFields (f .kinds) fs) refl s y
   where
     go : (x : Values) → readFields (f .kinds) fs ≡ x → Storing f → stores (makeBy (f .make) x) ≡ true → Store fs (lengthOf (makeBy (f .make) x))
     go unread q s y = true-false y refl
-    go (values vs) q (never n) y = true-false y (n vs)
-    go (values vs) q (last k l) y = rw (l vs) (four-fields fs vs (ap (λ ks. readFields ks fs) (sym k) ∙ q))
+    go (values vs) q (never _ n) y = true-false y (n vs)
+    go (values vs) q (last k _ l) y = rw (l vs) (four-fields fs vs (ap (λ ks. readFields ks fs) (sym k) ∙ q))
 
 store-by : (forms : List Form) → Each forms → (w : List ℕ) (fs : List (List ℕ)) → stores (readBy forms w fs) ≡ true → Store fs (lengthOf (readBy forms w fs))
 unfolding readBy stores choose
@@ -121,38 +109,36 @@ pub data-none : (l : List ℕ) → stores (readLine l) ≡ false → dataOf l �
 unfolding dataOf
 data-none l n = no! _ _ n
 
--- what the code's test of the request tells
-module _ (l : List ℕ) (r : Request) (b : Bool) (e : r ≡ readLine l) (t : b ≡ stores r) where
-  pub store-line : b ≡ true → stores (readLine l) ≡ true
-  store-line y = ap stores (sym e) ∙ sym t ∙ y
-
-  pub other-line : (o : List ℕ) → b ≡ false → o ≡ over o 0 (dataOf l)
+-- as the code finds them
+module _ (l : List ℕ) (r : Request) (start : ℕ) (e : r ≡ readLine l) (d : DataAt (fields l) l r start) where
+  pub none-stored : (o : List ℕ) → start ≡ 0 → o ≡ over o 0 (dataOf l)
   unfolding over
-  other-line o n = sym (ap (over o 0) (data-none l (ap stores (sym e) ∙ sym t ∙ n)))
+  none-stored o z = sym (ap (over o 0) (data-none l (ap stores (sym e) ∙ d .none z)))
 
--- Where each field after the name starts, up to the data, which are all that is left of the line.
-module _ (l : List ℕ) (caller register address start : ℕ) (y : stores (readLine l) ≡ true)
-    (a : fields (drop caller l) ≡ later (fields (drop 0 l))) (b : fields (drop register l) ≡ later (fields (drop caller l)))
-    (c : fields (drop address l) ≡ later (fields (drop register l))) (d : fields (drop start l) ≡ later (fields (drop address l))) where
-  rest-is : (hexField (take (length l - start) (drop start l)) ≡ is (lengthOf (readLine l))) × (hexBytes (take (length l - start) (drop start l)) ≡ dataOf l)
-  unfolding later
-  rest-is =
-      let f = five-fields l y in
-      let s = f .store in
-      let e : fields l ≡ f .word ∷ s .caller ∷ s .register ∷ s .address ∷ s .hexes ∷ [] = f .are ∙ ap (λ x. f .word ∷ x) (s .are) in
-      let g : fields (drop start l) ≡ s .hexes ∷ [] = d ∙ ap later (c ∙ ap later (b ∙ ap later (a ∙ ap later e))) in
-      let h : take (length l - start) (drop start l) ≡ s .hexes = take-all (length l - start) (drop start l) (omega (arith, length-drop start l)) ∙ last-field (drop start l) (s .hexes) g in
-      (ap hexField h ∙ s .count, ap hexBytes (h ∙ sym (ap (λ x. getD x 4 []) e)) ∙ sym (data-stored l y))
+  module _ (n : start ≡ 0 → ⊥) where
+    abbrev hexes : List ℕ
+    hexes = take (length l - start) (drop start l)
 
-  rest-good : (hexDigits (take (length l - start) (drop start l)) ≡ true) × (length (take (length l - start) (drop start l)) / 2 ≡ lengthOf (readLine l))
-  unfolding hexField
-  rest-good = let s = spelt-is _ (length (take (length l - start) (drop start l)) / 2) (lengthOf (readLine l)) (rest-is .0) in (both-right _ _ (s .0), s .1)
+    storing : stores (readLine l) ≡ true
+    storing = ap stores (sym e) ∙ d .some n .0
 
-  pub data-digits : hexDigits (take (length l - start) (drop start l)) ≡ true
-  data-digits = rest-good .0
+    rest-is : (hexField hexes ≡ is (lengthOf (readLine l))) × (hexBytes hexes ≡ dataOf l)
+    rest-is =
+        let f = five-fields l storing in
+        let s = f .store in
+        let g : fields l ≡ f .word ∷ s .caller ∷ s .register ∷ s .address ∷ s .hexes ∷ [] = f .are ∙ ap (λ x. f .word ∷ x) (s .are) in
+        let h : hexes ≡ s .hexes = take-all (length l - start) (drop start l) (omega (arith, length-drop start l)) ∙ last-of-five (fields l) _ _ _ _ _ (drop start l) g (d .some n .1) in
+        (ap hexField h ∙ s .count, ap hexBytes (h ∙ sym (ap (λ x. getD x 4 []) g)) ∙ sym (data-stored l storing))
 
-  pub data-room : (m : ℕ) → 257 ≤ m → length (take (length l - start) (drop start l)) / 2 ≤ m
-  data-room m h = omega (arith, rest-good .1, data-most l y)
+    rest-good : (hexDigits hexes ≡ true) × (length hexes / 2 ≡ lengthOf (readLine l))
+    unfolding hexField
+    rest-good = let s = spelt-is _ (length hexes / 2) (lengthOf (readLine l)) (rest-is .0) in (both-right _ _ (s .0), s .1)
 
-  pub data-is : (o t : List ℕ) → t ≡ over o 0 (hexBytes (take (length l - start) (drop start l))) → t ≡ over o 0 (dataOf l)
-  data-is o t e = e ∙ ap (over o 0) (rest-is .1)
+    pub data-digits : hexDigits hexes ≡ true
+    data-digits = rest-good .0
+
+    pub data-room : (m : ℕ) → m ≡ 257 → length hexes / 2 ≤ m
+    data-room m h = omega (arith, rest-good .1, data-most l storing)
+
+    pub data-is : (o t : List ℕ) → t ≡ over o 0 (hexBytes hexes) → t ≡ over o 0 (dataOf l)
+    data-is o t e = e ∙ ap (over o 0) (rest-is .1)

@@ -1,17 +1,17 @@
 -- The tables say what the model's forms say. Assumes nothing.
-use Prim.Native.Nat.{ℕ, zero, suc, _+_, _*_, _/_, _%_, _≤_, _<_}
+use Prim.Native.Nat.{ℕ, zero, suc, _+_, _/_, _%_, _≤_, _<_}
 use mathlib.Core.Bool.{Bool, true}
 use mathlib.Core.List.{List, [], _∷_}
-use mathlib.Core.Path.{_≡_, sym, ap, _∙_}
+use mathlib.Core.Path.{_≡_, sym, ap}
 use native.Mathlib.Omega.{arith}
 use lib.Dec.{eqb, leb}
-use lib.ListN.{length, getD, List·getD-map, List·getD-eq-default}
+use lib.ListN.{length, getD, List·getD-eq-default}
 use borrow.Author.Tests.{leb-true}
 use Rattle.lists.specs.Places.{every, lowest, lowestFrom}
 use Rattle.lists.proofs.Places.{every-at}
-use Rattle.fields.specs.Fields.{kindNumber, kindOf}
-use Rattle.fields.proofs.KindNumbers.{kind-is, kind-small}
-use Rattle.lines.specs.Tables.{calls, noForm, formAt, shapeOf, callNames, callShapes, placeOf, lowered, madeBy}
+use Rattle.fields.specs.Fields.{kindNumber}
+use Rattle.fields.proofs.KindNumbers.{kind-small}
+use Rattle.lines.specs.Tables.{calls, noForm, formAt, shapeOf, callNames, placeOf, lowered, madeBy}
 use Rattle.model.specs.declared.Request.{Request}
 use Rattle.model.specs.declared.Request.the-variants.{NotRead}
 use Rattle.model.specs.Lines.{FieldKind, forms}
@@ -21,17 +21,17 @@ pub shape-none : (k : FieldKind) (ks : List FieldKind) → shapeOf (k ∷ ks) �
 unfolding shapeOf
 shape-none k ks e = omega (arith, kind-small k)
 
-pub shape-first : (k : FieldKind) (ks : List FieldKind) → kindOf (shapeOf (k ∷ ks) % 8) ≡ k
+pub shape-first : (k : FieldKind) (ks : List FieldKind) → shapeOf (k ∷ ks) % 4 ≡ kindNumber k % 4
 unfolding shapeOf
-shape-first k ks = let e : (kindNumber k + 8 * shapeOf ks) % 8 ≡ kindNumber k = omega (arith, kind-small k) in ap kindOf e ∙ kind-is k
+shape-first k ks = omega arith
 
 pub shape-rest : (k : FieldKind) (ks : List FieldKind) → shapeOf (k ∷ ks) / 8 ≡ shapeOf ks
 unfolding shapeOf
 shape-rest k ks = omega (arith, kind-small k)
 
-pub shape-at : (p : ℕ) → getD callShapes p 0 ≡ shapeOf (formAt p .kinds)
-unfolding callShapes shapeOf
-shape-at p = List·getD-map (λ f. shapeOf (f .kinds)) forms p noForm
+-- by the call's number
+pub shaped : (p n r : ℕ) → p ≡ n → r ≡ shapeOf (formAt n .kinds) → r ≡ shapeOf (formAt p .kinds)
+shaped p n r e q = rw e q
 
 -- no call has more than n fields, by a test that is computed for the code's n
 abbrev pub enough : ℕ → Bool
@@ -54,14 +54,18 @@ unfolding NoneBelow
 above p zero r = omega arith
 above p (suc n) r = omega (arith, above p n (r .0), r .1)
 
+no-form : (p : ℕ) → NoneBelow p calls → noForm ≡ formAt p
+no-form p r = sym (List·getD-eq-default forms noForm {n = p} (above p calls r))
+
 pub made-none : (p : ℕ) (v : List ℕ) → NoneBelow p calls → NotRead ≡ madeBy p v
 unfolding madeBy
-made-none p v r = sym (ap (λ f. f .make (lowered (f .kinds) 0 v)) (List·getD-eq-default forms noForm {n = p} (above p calls r)))
+made-none p v r = ap (λ f. f .make (lowered (f .kinds) 0 v)) (no-form p r)
+
+pub shaped-none : (p : ℕ) → NoneBelow p calls → 0 ≡ shapeOf (formAt p .kinds)
+unfolding shapeOf
+shaped-none p r = ap (λ f. shapeOf (f .kinds)) (no-form p r)
 
 -- the place of a name in the table
 pub place-from : (names : List ℕ) (n : ℕ) → names ≡ callNames → placeOf n ≡ lowestFrom (λ k. eqb (getD names k 0) n) 0 calls
 unfolding lowest
 place-from names n e = rw e
-
-pub shape-of : (t : List ℕ) (p : ℕ) → t ≡ callShapes → getD t p 0 ≡ shapeOf (formAt p .kinds)
-shape-of t p e = ap (λ x. getD x p 0) e ∙ shape-at p

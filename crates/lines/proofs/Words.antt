@@ -1,21 +1,25 @@
 -- A call is known by its name as one number. Assumes nothing.
-use Prim.Native.Nat.{ℕ, zero, suc, _+_, _-_, _*_, _≤_, _<_}
-use mathlib.Core.Bool.{Bool, true, false, not}
-use mathlib.Core.List.{List, [], _∷_, _++_}
+use Prim.Native.Nat.{ℕ, zero, suc, _+_, _*_, _^_, _≤_, _<_}
+use mathlib.Core.Bool.{Bool, true, false}
+use mathlib.Core.List.{List, [], _∷_}
 use mathlib.Core.Path.{_≡_, refl, sym, ap, ap₂, _∙_}
+use native.Mathlib.Decide.{decLe}
+use native.Mathlib.Nat.{pow-suc, pow-le-pow-right, mul-le-mul-right}
+use native.Mathlib.Numerals.{add-one}
 use native.Mathlib.Omega.{arith}
 use lib.Dec.{eqb, leb, ltb}
-use lib.ListN.{length, getD, take, replicate, length-append, length-replicate}
-use borrow.Author.Tests.{eq-eqb, eqb-true, eqb-false, leb-true, ltb-true}
-use Rattle.lists.specs.Choice.{choose, both}
+use lib.ListN.{length, getD}
+use borrow.Author.Tests.{eq-eqb, eqb-true, eqb-false, le-leb, leb-true, ltb-true}
+use Rattle.lists.specs.Choice.{both}
 use Rattle.lists.specs.Places.{every, allFrom}
-use Rattle.lists.proofs.Choice.{yes!, no!, both-left, both-right, both-intro, not-to, not-so, true-false}
+use Rattle.lists.proofs.Choice.{yes!, no!, choose-elim, both-left, both-right, both-intro, not-so, true-false}
 use Rattle.lists.proofs.Places.{every-at, lowest-holds, lowest-least}
 use Rattle.model.specs.declared.Request.the-variants.{NotRead}
-use Rattle.model.specs.Lines.{is, bad, spelt, noBlank, packed, packedName, nameField, Form, forms, sameBytes, makeBy, readFields, readBy}
-use Rattle.fields.proofs.Turns.{Bytes}
-use Rattle.lines.specs.Tables.{calls, noForm, formAt, callNames, placeOf}
+use Rattle.model.specs.Lines.{is, bad, spelt, packed, Form, forms, sameBytes, makeBy, readFields, readBy}
+use Rattle.fields.specs.Fields.{firstField, wordField}
+use Rattle.fields.proofs.Readings.{Bytes}
 use Rattle.fields.proofs.Spelling.{spelt-is}
+use Rattle.lines.specs.Tables.{calls, noForm, formAt, callNames, placeOf}
 
 -- two names of bytes that are the same number are the same name
 tail-bytes : (b : ℕ) (f : List ℕ) → Bytes (b ∷ f) → Bytes f
@@ -30,33 +34,6 @@ packed-same a b (x ∷ f) (y ∷ g) l k m e =
     let r = packed-same (a * 256 + x) (b * 256 + y) f g (omega arith) (tail-bytes x f k) (tail-bytes y g m) e in
     (omega (arith, r .0, k .byte 0, m .byte 0), ap₂ _∷_ (omega (arith, r .0, k .byte 0, m .byte 0)) (r .1))
 
--- blanks are put behind a name, and none stands in it, so that it ends at the first
-unpadded : List ℕ → List ℕ
-unpadded [] = []
-unpadded (b ∷ bs) = choose (eqb b 32) [] (b ∷ unpadded bs)
-
-unpadded-is : (f : List ℕ) (n : ℕ) → noBlank f ≡ true → unpadded (f ++ replicate n 32) ≡ f
-unfolding unpadded noBlank choose
-unpadded-is [] zero y = refl
-unpadded-is [] (suc n) y = refl
-unpadded-is (b ∷ f) n y =
-    let e = not-to (eqb b 32) (both-left (not (eqb b 32)) (noBlank f) y) in
-    rw (e, unpadded-is f n (both-right (not (eqb b 32)) (noBlank f) y))
-
--- a name: the model's test, and that it consists of bytes
-abbrev nameTest : List ℕ → Bool
-nameTest f = both (both (leb 1 (length f)) (leb (length f) 8)) (noBlank f)
-
-record Name (f : List ℕ) : Type 0 where
-  test : nameTest f ≡ true
-  bytes : Bytes f
-
-name-most : (f : List ℕ) → Name f → length f ≤ 8
-name-most f n = leb-true (length f) 8 (both-right (leb 1 (length f)) _ (both-left _ (noBlank f) (n .test)))
-
-name-whole : (f : List ℕ) → Name f → noBlank f ≡ true
-name-whole f n = both-right (both (leb 1 (length f)) (leb (length f) 8)) (noBlank f) (n .test)
-
 cons-bytes : (b : ℕ) (f : List ℕ) → b < 256 → Bytes f → Bytes (b ∷ f)
 cons-bytes b f h k = record { byte = go }
   where
@@ -64,27 +41,41 @@ cons-bytes b f h k = record { byte = go }
     go zero = h
     go (suc i) = k .byte i
 
-pub take-bytes : (n : ℕ) (f : List ℕ) → Bytes f → Bytes (take n f)
-take-bytes zero f k = record { byte = λ i. omega arith }
-take-bytes (suc n) [] k = k
-take-bytes (suc n) (b ∷ f) k = cons-bytes b (take n f) (k .byte 0) (take-bytes n f (tail-bytes b f k))
+pub first-bytes : (f : List ℕ) → Bytes f → Bytes (firstField f)
+unfolding firstField
+first-bytes [] k = k
+first-bytes (b ∷ f) k = choose-elim Bytes (eqb b 9) [] (b ∷ firstField f) (λ _. record { byte = λ i. omega arith }) (λ _. cons-bytes b (firstField f) (k .byte 0) (first-bytes f (tail-bytes b f k)))
 
-padded-bytes : (f : List ℕ) (n : ℕ) → Bytes f → Bytes (f ++ replicate n 32)
-padded-bytes [] zero k = k
-padded-bytes [] (suc n) k = cons-bytes 32 (replicate n 32) (omega arith) (padded-bytes [] n k)
-padded-bytes (b ∷ f) n k = cons-bytes b (f ++ replicate n 32) (k .byte 0) (padded-bytes f n (tail-bytes b f k))
+-- a 1 before them tells how many bytes there are
+packed-low : (v : ℕ) (f : List ℕ) → v * 256 ^ length f ≤ packed v f
+unfolding packed
+packed-low v [] = omega arith
+packed-low v (b ∷ f) =
+    let p : v * 256 * 256 ^ length f ≤ (v * 256 + b) * 256 ^ length f = mul-le-mul-right (256 ^ length f) (omega arith) in
+    omega (arith, packed-low (v * 256 + b) f, ap (λ x. v * x) (pow-suc 256 (length f)))
 
-padded-length : (f : List ℕ) → length f ≤ 8 → length (f ++ replicate (8 - length f) 32) ≡ 8
-padded-length f h = length-append f (replicate (8 - length f) 32) ∙ omega (arith, length-replicate {A = ℕ} (8 - length f) 32)
+packed-high : (v : ℕ) (f : List ℕ) → Bytes f → packed v f < (v + 1) * 256 ^ length f
+unfolding packed
+packed-high v [] k = omega arith
+packed-high v (b ∷ f) k =
+    let p : (v * 256 + b + 1) * 256 ^ length f ≤ (v + 1) * 256 * 256 ^ length f = mul-le-mul-right (256 ^ length f) (omega (arith, k .byte 0)) in
+    omega (arith, packed-high (v * 256 + b) f (tail-bytes b f k), ap (λ x. (v + 1) * x) (pow-suc 256 (length f)))
 
-name-same : (f g : List ℕ) → Name f → Name g → packedName f ≡ packedName g → f ≡ g
-unfolding packedName
-name-same f g a b e =
-    let l = padded-length f (name-most f a) ∙ sym (padded-length g (name-most g b)) in
-    let p = packed-same 0 0 _ _ l (padded-bytes f (8 - length f) (a .bytes)) (padded-bytes g (8 - length g) (b .bytes)) e .1 in
-    sym (unpadded-is f (8 - length f) (name-whole f a)) ∙ ap unpadded p ∙ unpadded-is g (8 - length g) (name-whole g b)
+not-longer : (f g : List ℕ) → Bytes f → packed 1 f ≡ packed 1 g → length g ≤ length f
+not-longer f g k e = go (decLe (length g) (length f))
+  where
+    go : Dec (length g ≤ length f) → length g ≤ length f
+    go (yes h) = h
+    go (no n) =
+        let l : length f + 1 ≤ length g = omega arith in
+        let p : 256 ^ (length f + 1) ≤ 256 ^ length g = pow-le-pow-right (omega arith) l in
+        let q : 256 ^ (length f + 1) ≡ 256 ^ length f * 256 = ap (λ n. 256 ^ n) (add-one (length f)) ∙ pow-suc 256 (length f) in
+        absurd (omega (arith, packed-high 1 f k, packed-low 1 g))
 
--- The words of the forms are names, and stand in the table: one test, computed.
+word-same : (f g : List ℕ) → Bytes f → Bytes g → packed 1 f ≡ packed 1 g → f ≡ g
+word-same f g k m e = packed-same 1 1 f g (omega (arith, not-longer f g k e, not-longer g f m (sym e))) k m e .1
+
+-- The words of the forms are such, and stand in the table: one test, computed.
 allBytes : List ℕ → Bool
 allBytes [] = true
 allBytes (b ∷ bs) = both (ltb b 256) (allBytes bs)
@@ -96,28 +87,29 @@ bytes-of (b ∷ f) e = cons-bytes b f (ltb-true b 256 (both-left (ltb b 256) (al
 
 wordTest : ℕ → Bool
 wordTest i =
-    both (both (nameTest (formAt i .word)) (allBytes (formAt i .word))) (eqb (getD callNames i 0) (packedName (formAt i .word)))
+    both (both (leb (length (formAt i .word)) 7) (allBytes (formAt i .word))) (eqb (getD callNames i 0) (packed 1 (formAt i .word)))
 
 words-pass : every wordTest calls ≡ true
-unfolding wordTest every allFrom both allBytes forms callNames packedName packed noBlank
+unfolding wordTest every allFrom both allBytes forms callNames packed
 words-pass = refl
 
-word-at : (i : ℕ) → i < calls → (Name (formAt i .word)) × (getD callNames i 0 ≡ packedName (formAt i .word))
+-- the i-th form's name
+record Known (i : ℕ) : Type 0 where
+  most : length (formAt i .word) ≤ 7
+  bytes : Bytes (formAt i .word)
+  number : getD callNames i 0 ≡ packed 1 (formAt i .word)
+
+word-at : (i : ℕ) → i < calls → Known i
 unfolding wordTest
 word-at i h =
     let w = formAt i .word in
     let t = every-at wordTest calls words-pass i h in
-    let n = both-left (both (nameTest w) (allBytes w)) _ t in
-    (record { test = both-left (nameTest w) (allBytes w) n; bytes = bytes-of w (both-right (nameTest w) (allBytes w) n) }, eqb-true (getD callNames i 0) (packedName w) (both-right (both (nameTest w) (allBytes w)) _ t))
-
--- a field that is read as a name
-good-name : (w : List ℕ) (v : ℕ) → Bytes w → nameField w ≡ is v → (Name w) × (packedName w ≡ v)
-unfolding nameField
-good-name w v k e = let s = spelt-is (nameTest w) (packedName w) v e in (record { test = s .0; bytes = k }, s .1)
-
-name-good : (w : List ℕ) → Name w → nameField w ≡ is (packedName w)
-unfolding nameField spelt
-name-good w n = rw (n .test)
+    let n = both-left (both (leb (length w) 7) (allBytes w)) _ t in
+    record {
+      most = leb-true (length w) 7 (both-left _ (allBytes w) n);
+      bytes = bytes-of w (both-right (leb (length w) 7) (allBytes w) n);
+      number = eqb-true (getD callNames i 0) (packed 1 w) (both-right (both (leb (length w) 7) (allBytes w)) _ t);
+    }
 
 same-bytes : (f g : List ℕ) → sameBytes f g ≡ true → f ≡ g
 unfolding sameBytes
@@ -132,23 +124,27 @@ unfolding sameBytes
 same-self [] = refl
 same-self (a ∷ f) = both-intro (eqb a a) (sameBytes f f) (eq-eqb a a refl) (same-self f)
 
--- The i-th form is the call that a good name names where the table has the name's number.
-word-yes : (i : ℕ) (w : List ℕ) (v : ℕ) → i < calls → Bytes w → nameField w ≡ is v → eqb (getD callNames i 0) v ≡ true → sameBytes (formAt i .word) w ≡ true
+-- The i-th form is the call that a name names where the table has the name's number.
+word-number : (w : List ℕ) (v : ℕ) → wordField w ≡ is v → packed 1 w ≡ v
+unfolding wordField
+word-number w v e = spelt-is _ (packed 1 w) v e .1
+
+word-yes : (i : ℕ) (w : List ℕ) (v : ℕ) → i < calls → Bytes w → wordField w ≡ is v → eqb (getD callNames i 0) v ≡ true → sameBytes (formAt i .word) w ≡ true
 word-yes i w v h k e y =
-    let n = good-name w v k e in
     let f = word-at i h in
-    let q = name-same (formAt i .word) w (f .0) (n .0) (sym (f .1) ∙ eqb-true (getD callNames i 0) v y ∙ sym (n .1)) in
+    let q = word-same (formAt i .word) w (f .bytes) k (sym (f .number) ∙ eqb-true (getD callNames i 0) v y ∙ sym (word-number w v e)) in
     ap (λ x. sameBytes x w) q ∙ same-self w
 
-word-no : (i : ℕ) (w : List ℕ) (v : ℕ) → i < calls → Bytes w → nameField w ≡ is v → eqb (getD callNames i 0) v ≡ false → sameBytes (formAt i .word) w ≡ false
-word-no i w v h k e n =
-    not-so _ (λ y. eqb-false (getD callNames i 0) v n (word-at i h .1 ∙ ap packedName (same-bytes (formAt i .word) w y) ∙ good-name w v k e .1))
+word-no : (i : ℕ) (w : List ℕ) (v : ℕ) → i < calls → wordField w ≡ is v → eqb (getD callNames i 0) v ≡ false → sameBytes (formAt i .word) w ≡ false
+word-no i w v h e n =
+    not-so _ (λ y. eqb-false (getD callNames i 0) v n (word-at i h .number ∙ ap (packed 1) (same-bytes (formAt i .word) w y) ∙ word-number w v e))
 
-word-bad : (i : ℕ) (w : List ℕ) → i < calls → nameField w ≡ bad → sameBytes (formAt i .word) w ≡ false
+word-bad : (i : ℕ) (w : List ℕ) → i < calls → wordField w ≡ bad → sameBytes (formAt i .word) w ≡ false
+unfolding wordField spelt
 word-bad i w h e =
     not-so _ (λ y.
-    let q = ap nameField (same-bytes (formAt i .word) w y) ∙ e in
-    let g = name-good (formAt i .word) (word-at i h .0) in
+    let g = le-leb (length w) 7 (omega (arith, word-at i h .most, ap length (same-bytes (formAt i .word) w y))) in
+    let q = sym (ap (λ b. spelt b (packed 1 w)) g) ∙ e in
     let z : _≡_ {A = ℕ} 0 1 = cc in
     omega arith)
 
@@ -166,15 +162,15 @@ read-none [] w xs f = refl
 read-none (g ∷ fs) w xs f = no! _ _ (f 0 (omega arith)) ∙ read-none fs w xs (λ i l. f (suc i) (omega arith))
 
 -- which form a first field picks, from what was read of it
-pub read-unnamed : (w : List ℕ) (xs : List (List ℕ)) → nameField w ≡ bad → readBy forms w xs ≡ NotRead
+pub read-unnamed : (w : List ℕ) (xs : List (List ℕ)) → wordField w ≡ bad → readBy forms w xs ≡ NotRead
 read-unnamed w xs e = read-none forms w xs (λ i h. word-bad i w h e)
 
-pub read-unknown : (w : List ℕ) (xs : List (List ℕ)) (v : ℕ) → Bytes w → nameField w ≡ is v → calls ≤ placeOf v → readBy forms w xs ≡ NotRead
-read-unknown w xs v k e h = read-none forms w xs (λ i l. word-no i w v l k e (lowest-least (λ j. eqb (getD callNames j 0) v) calls i (omega arith)))
+pub read-unknown : (w : List ℕ) (xs : List (List ℕ)) (v : ℕ) → wordField w ≡ is v → calls ≤ placeOf v → readBy forms w xs ≡ NotRead
+read-unknown w xs v e h = read-none forms w xs (λ i l. word-no i w v l e (lowest-least (λ j. eqb (getD callNames j 0) v) calls i (omega arith)))
 
-pub read-known : (w : List ℕ) (xs : List (List ℕ)) (v : ℕ) → Bytes w → nameField w ≡ is v → placeOf v < calls
+pub read-known : (w : List ℕ) (xs : List (List ℕ)) (v : ℕ) → Bytes w → wordField w ≡ is v → placeOf v < calls
     → readBy forms w xs ≡ makeBy (formAt (placeOf v) .make) (readFields (formAt (placeOf v) .kinds) xs)
 read-known w xs v k e h =
     read-here forms (placeOf v) w xs h
-    (λ i l. word-no i w v (omega arith) k e (lowest-least (λ j. eqb (getD callNames j 0) v) calls i l))
+    (λ i l. word-no i w v (omega arith) e (lowest-least (λ j. eqb (getD callNames j 0) v) calls i l))
     (word-yes (placeOf v) w v h k e (lowest-holds (λ j. eqb (getD callNames j 0) v) calls h))

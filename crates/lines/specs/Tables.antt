@@ -1,4 +1,4 @@
--- The reader's two tables, which are the model's `forms` in numbers, and the request that values make.
+-- The reader's tables, which are the model's `forms` in numbers, and the request that values make.
 use Prim.Native.Nat.{ℕ, _+_, _*_, _%_}
 use mathlib.Core.List.{List, [], _∷_, map}
 use lib.Dec.{eqb}
@@ -7,7 +7,7 @@ use Rattle.lists.specs.Places.{lowest}
 use Rattle.model.specs.declared.Operation.{Operation}
 use Rattle.model.specs.declared.Request.{Request}
 use Rattle.model.specs.declared.Request.the-variants.{Call, NotRead}
-use Rattle.model.specs.Lines.{Form, forms, FieldKind, number, name, right, hex, packedName, at}
+use Rattle.model.specs.Lines.{Form, forms, FieldKind, number, name, right, hex, packed, at}
 use Rattle.fields.specs.Fields.{kindNumber}
 
 -- how many names a line may begin with
@@ -26,13 +26,11 @@ unfoldable pub shapeOf : List FieldKind → ℕ
 shapeOf [] = 0
 shapeOf (k ∷ ks) = kindNumber k + 8 * shapeOf ks
 
+-- the calls' names, each as one number, as `wordField` packs it
 unfoldable pub callNames : List ℕ
-callNames = map (λ f. packedName (f .word)) forms
+callNames = map (λ f. packed 1 (f .word)) forms
 
-unfoldable pub callShapes : List ℕ
-callShapes = map (λ f. shapeOf (f .kinds)) forms
-
--- the number of the call that a packed name names, or how many there are
+-- the number of the call that such a number names, or how many calls there are
 abbrev pub placeOf : ℕ → ℕ
 placeOf n = lowest (λ i. eqb (getD callNames i 0) n) calls
 

@@ -1,13 +1,13 @@
 // One line of a session, read in place: the request that it spells, and the data of a store. What a line spells is `readLine`
 // of the model, and its data `dataOf`.
 ghost use Prim.Native.Nat.{_≤_, _<_};
-ghost use mathlib.Core.Bool.{true};
 ghost use mathlib.Core.Path.{_≡_};
 ghost use lib.ListN.{length, drop};
 ghost use Rattle.lists.specs.Bytes.{over};
-ghost use Rattle.model.specs.Lines.{fields, readFields, makeBy, rightOf, readLine, stores, dataOf};
-ghost use Rattle.lines.specs.Fields.{tabFrom, following, later};
-ghost use Rattle.lines.specs.Tables.{calls, formAt, shapeOf, callNames, callShapes, placeOf, askedBy, madeBy};
+ghost use Rattle.model.specs.declared.Request.{Request};
+ghost use Rattle.model.specs.Lines.{fields, readFields, makeBy, rightOf, readLine, dataOf};
+ghost use Rattle.lines.specs.Fields.{following, DataAt};
+ghost use Rattle.lines.specs.Tables.{calls, formAt, shapeOf, callNames, placeOf, askedBy, madeBy};
 use fields::Field;
 use model::Call;
 use model::Caller;
@@ -22,60 +22,52 @@ const CALLS: usize = 14;
 // The most fields that follow a name.
 const MOST_FIELDS: usize = 6;
 
-// The place of the first tab at or after `from`, or the line's length.
-fn field_end(line: &[u8], from: usize) -> usize
-    requires { ⌜ from ≤ length (now line) ⌝ }
-    ensures { λ r. ⌜ (r ≡ tabFrom (now (line .entry)) from) × (from ≤ r) × (r ≤ length (now (line .entry))) ⌝ }
-{
-    moves::find(line, from, 9)
-}
-
-// The calls' names, each as one number. A table that is indexed in a loop is built before it: a constant that is indexed is
-// built anew at each use.
+// The calls' names, each as one number: a 1 and its letters, so that the number tells how many there are.
 fn call_names() -> [u64; CALLS]
     ensures { λ r. ⌜ r ≡ callNames ⌝ }
 {
     [
-        0x4652414d45532020,
-        0x454e524f4c202020,
-        0x4352454154452020,
-        0x44455354524f5920,
-        0x5045524d49542020,
-        0x49534f4c41544520,
-        0x5155455259202020,
-        0x4144442020202020,
-        0x52454d4f56452020,
-        0x4c4f414420202020,
-        0x4d4f444520202020,
-        0x4645544348202020,
-        0x53544f5245202020,
-        0x5245534554202020,
+        0x14652414d4553,
+        0x1454e524f4c,
+        0x1435245415445,
+        0x144455354524f59,
+        0x15045524d4954,
+        0x149534f4c415445,
+        0x15155455259,
+        0x1414444,
+        0x152454d4f5645,
+        0x14c4f4144,
+        0x14d4f4445,
+        0x14645544348,
+        0x153544f5245,
+        0x15245534554,
     ]
 }
 
-// The kinds of each call's fields, three bits a field, the first lowest: 1 a number, 2 a name, 3 a right, 4 data.
-fn call_shapes() -> [u64; CALLS]
-    ensures { λ r. ⌜ r ≡ callShapes ⌝ }
+// The kinds of a call's fields, three bits a field, the first lowest: 1 a number, 2 a name, 3 a right, 4 data, which come last.
+fn call_shape(place: usize) -> u64
+    ensures { λ r. ⌜ r ≡ shapeOf (formAt place .kinds) ⌝ }
 {
-    [
-        0o1,
-        0o111111,
-        0o121,
-        0o11,
-        0o3111,
-        0o11,
-        0o211,
-        0o311,
-        0o11,
-        0o111,
-        0o11,
-        0o1111,
-        0o4111,
-        0o1,
-    ]
+    match place {
+        0 => 0o1,
+        1 => 0o111111,
+        2 => 0o121,
+        3 => 0o11,
+        4 => 0o3111,
+        5 => 0o11,
+        6 => 0o211,
+        7 => 0o311,
+        8 => 0o11,
+        9 => 0o111,
+        10 => 0o11,
+        11 => 0o1111,
+        12 => 0o4111,
+        13 => 0o1,
+        _ => 0,
+    }
 }
 
-// The number of the call that a packed name names, or how many there are.
+// The number of the call that a name names, or how many there are.
 fn call_place(word: u64) -> usize
     ensures { λ r. ⌜ r ≡ placeOf word ⌝ }
 {
@@ -207,90 +199,85 @@ fn make(place: usize, v: [u64; MOST_FIELDS]) -> Request
     }
 }
 
-// The fields after the call's name, which ends at `first`.
-fn arguments(line: &[u8], place: usize, shape: u64, first: usize) -> Request
+// A request, and where the data of a store start: 0 where it has none.
+struct Parsed {
+    request: Request,
+    data_at: usize,
+}
+
+fn not_read() -> Parsed
+    ensures { λ r. ⌜ (r .request ≡ Request.NotRead) × (r .data_at ≡ 0) ⌝ }
+{
+    Parsed {
+        request: Request::NotRead,
+        data_at: 0,
+    }
+}
+
+// The fields after the call's name, which ends at `first`. Each is read up to its tab; data run to the line's end.
+fn arguments(line: &[u8], place: usize, shape: u64, first: usize) -> Parsed
     requires { ⌜ (place < calls) × (shape ≡ shapeOf (formAt place .kinds)) × (first ≤ length (now line)) ⌝ }
-    ensures { λ r. ⌜ r ≡ makeBy (formAt place .make) (readFields (formAt place .kinds) (following (drop first (now (line .entry))))) ⌝ }
+    ensures { λ r. ⌜ (r .request ≡ makeBy (formAt place .make) (readFields (formAt place .kinds) (following (drop first (now (line .entry)))))) × DataAt (following (drop first (now (line .entry)))) (now (line .entry)) (r .request) (r .data_at) ⌝ }
 {
     let mut values = [0u64; MOST_FIELDS];
     let mut kinds = shape;
     let mut end = first;
     let mut k: usize = 0;
-    while kinds != 0 {
+    while kinds % 4 != 0 {
         if line.len() <= end {
-            return Request::NotRead;
+            return not_read();
         }
-        let start = end + 1;
-        end = field_end(line, start);
-        let Field::Is(v) = fields::read_field(kinds % 8, &line[start..end]) else {
-            return Request::NotRead;
+        let field = fields::read_field(kinds % 4, line, end + 1);
+        let Field::Is { value: v, end: e } = field else {
+            return not_read();
         };
+        end = e;
         values[k] = v;
         kinds = kinds / 8;
         k += 1;
     }
-    if end < line.len() {
-        return Request::NotRead;
+    if kinds == 0 {
+        if end < line.len() {
+            return not_read();
+        }
+        return Parsed {
+            request: make(place, values),
+            data_at: 0,
+        };
     }
-    make(place, values)
+    if line.len() <= end {
+        return not_read();
+    }
+    let start = end + 1;
+    let Field::Is { value: n, .. } = fields::data_field(&line[start..]) else {
+        return not_read();
+    };
+    values[k] = n;
+    Parsed {
+        request: make(place, values),
+        data_at: start,
+    }
 }
 
 // What a line asks for.
-fn read(line: &[u8]) -> Request
-    ensures { λ r. ⌜ r ≡ readLine (now (line .entry)) ⌝ }
+fn read(line: &[u8]) -> Parsed
+    ensures { λ r. ⌜ (r .request ≡ readLine (now (line .entry))) × DataAt (fields (now (line .entry))) (now (line .entry)) (r .request) (r .data_at) ⌝ }
 {
     if 600 < line.len() {
-        return Request::NotRead;
+        return not_read();
     }
-    let first = field_end(line, 0);
-    let Field::Is(word) = fields::name(&line[0..first]) else {
-        return Request::NotRead;
+    let Field::Is {
+        value: word,
+        end: first,
+    } = fields::word(line)
+    else {
+        return not_read();
     };
     let place = call_place(word);
     if CALLS <= place {
-        return Request::NotRead;
+        return not_read();
     }
-    let shapes = call_shapes();
-    arguments(line, place, shapes[place], first)
-}
-
-// Where the next field starts.
-fn next_field(line: &[u8], from: usize) -> usize
-    requires { ⌜ from ≤ length (now line) ⌝ }
-    ensures { λ r. ⌜ (fields (drop r (now (line .entry))) ≡ later (fields (drop from (now (line .entry))))) × (r ≤ length (now (line .entry))) ⌝ }
-{
-    let tab = field_end(line, from);
-    if tab < line.len() {
-        return tab + 1;
-    }
-    tab
-}
-
-// The data of a line that asks to store, over the first bytes of `out`.
-fn read_data(line: &[u8], out: &mut [u8])
-    requires { ⌜ (stores (readLine (now line)) ≡ true) × (257 ≤ length (now out)) ⌝ }
-    ensures { λ _. ⌜ now (out .exit) ≡ over (now (out .entry)) 0 (dataOf (now (line .entry))) ⌝ }
-{
-    let caller = next_field(line, 0);
-    let register = next_field(line, caller);
-    let address = next_field(line, register);
-    let start = next_field(line, address);
-    fields::decode(&line[start..], out);
-}
-
-fn is_store(request: Request) -> bool
-    ensures { λ r. ⌜ r ≡ stores request ⌝ }
-{
-    match request {
-        Request::Call { call, .. } => {
-            let operation = call.operation;
-            match operation {
-                Operation::Store { .. } => true,
-                _ => false,
-            }
-        }
-        _ => false,
-    }
+    arguments(line, place, call_shape(place), first)
 }
 
 // One line, without its newline: what it asks for, and the data of a store over the first bytes of `bytes`.
@@ -298,10 +285,11 @@ pub fn read_line(line: &[u8], bytes: &mut [u8; 257]) -> Request
     ensures { λ r. ⌜ r ≡ readLine (now (line .entry)) ⌝ }
     ensures { λ _. ⌜ now (bytes .exit) ≡ over (now (bytes .entry)) 0 (dataOf (now (line .entry))) ⌝ }
 {
-    let request = read(line);
-    if is_store(request) {
-        read_data(line, bytes);
-        return request;
+    let parsed = read(line);
+    let start = parsed.data_at;
+    if start == 0 {
+        return parsed.request;
     }
-    request
+    fields::decode(&line[start..], bytes);
+    parsed.request
 }

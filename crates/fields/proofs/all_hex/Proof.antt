@@ -5,7 +5,7 @@ use native.Mathlib.Omega.{arith}
 use lib.ListN.{length, drop}
 use Rattle.lists.proofs.Rules.{calls}
 use Rattle.model.specs.Lines.{hexDigits}
-use Rattle.fields.proofs.Turns.{hexes}
+use Rattle.fields.proofs.HexDigits.{hexes}
 use borrow.Author.Needs.{needs}
 use Rattle.fields.proofs.all_hex.Statement.{statement}
 use Rattle.fields.proofs.all_hex.Tie as tie

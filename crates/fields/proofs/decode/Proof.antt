@@ -1,5 +1,6 @@
 -- `fields::decode` meets its contract.
 use Prim.Native.Nat.{_-_}
+use native.Mathlib.Omega.{arith}
 use Rattle.fields.proofs.Decoding.{Decoded, decoded-none, decoded-first, decoded-second, decoded-turn, decoded-end}
 use borrow.Author.Needs.{needs}
 use Rattle.fields.proofs.decode.Statement.{statement}
@@ -14,11 +15,11 @@ abbrev μ-loop : tie.MeasureT-loop
 loop-holds : tie.Need-loop-holds Inv-loop μ-loop
 loop-holds c = search decoded-none
 
-hex-value-requires : tie.Need-hex-value-requires Inv-loop μ-loop
-hex-value-requires c κs = search decoded-first
+pair-requires : tie.Need-pair-requires Inv-loop μ-loop
+pair-requires c κs = omega arith
 
-hex-value-requires-2 : tie.Need-hex-value-requires-2 Inv-loop μ-loop
-hex-value-requires-2 c κs = search decoded-second
+byte-of-requires : tie.Need-byte-of-requires Inv-loop μ-loop
+byte-of-requires c κs = (search decoded-first, search decoded-second)
 
 loop-again : tie.Need-loop-again Inv-loop μ-loop
 loop-again c = search decoded-turn
@@ -27,24 +28,4 @@ returns : tie.Need-returns Inv-loop μ-loop
 returns c = search decoded-end
 
 pub decode-spec : {M : Type 1} → statement M
-decode-spec =
-    tie.close
-    (tie.spec
-    Inv-loop
-    μ-loop
-    loop-holds
-    (λ c. search needs)
-    (λ c. search needs)
-    hex-value-requires
-    (λ c. search needs)
-    (λ c. search needs)
-    (λ c. search needs)
-    (λ c. search needs)
-    hex-value-requires-2
-    (λ c. search needs)
-    (λ c. search needs)
-    (λ c. search needs)
-    (λ c. search needs)
-    loop-again
-    (λ c. search needs)
-    returns)
+decode-spec = tie.close (tie.spec Inv-loop μ-loop loop-holds pair-requires byte-of-requires (λ c. search needs) (λ c. search needs) (λ c. search needs) loop-again (λ c. search needs) returns)

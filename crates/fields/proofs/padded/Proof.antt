@@ -1,5 +1,5 @@
 -- `fields::padded` meets its contract.
-use Rattle.fields.proofs.Turns.{Padding, padding-start, padding-turn, padding-scaled, padding-fits, padding-end}
+use Rattle.fields.proofs.Readings.{Padding, padding-start, padding-turn, padding-scaled, padding-fits, padding-end}
 use Prim.Native.Nat.{_-_}
 use borrow.Author.Needs.{needs}
 use Rattle.fields.proofs.padded.Statement.{statement}

@@ -4,7 +4,7 @@ use mathlib.Core.Path.{_≡_, refl}
 use native.Mathlib.Omega.{arith}
 use lib.ListN.{length, drop}
 use Rattle.model.specs.Lines.{hexDigits}
-use Rattle.fields.proofs.Turns.{hex-skip}
+use Rattle.fields.proofs.HexDigits.{hex-skip}
 use borrow.Author.Needs.{needs}
 use Rattle.fields.proofs.pass_blocks.Statement.{statement}
 use Rattle.fields.proofs.pass_blocks.Tie as tie

@@ -1,5 +1,5 @@
 -- `fields::read_field` meets its contract.
-use Rattle.fields.proofs.KindNumbers.{field-number, field-name, field-right, field-hex}
+use Rattle.fields.proofs.KindNumbers.{field-number, field-name, field-right}
 use borrow.Author.Needs.{needs}
 use Rattle.fields.proofs.read_field.Statement.{statement}
 use Rattle.fields.proofs.read_field.Tie as tie
@@ -13,18 +13,5 @@ returns-2 c = search field-name
 returns-3 : tie.Need-returns-3
 returns-3 c = search field-right
 
-returns-4 : tie.Need-returns-4
-returns-4 c = search field-hex
-
 pub read-field-spec : {M : Type 1} → statement M
-read-field-spec =
-    tie.close
-    (tie.spec
-    (λ c κs. search needs)
-    returns
-    (λ c κs. search needs)
-    returns-2
-    (λ c κs. search needs)
-    returns-3
-    (λ c κs. search needs)
-    returns-4)
+read-field-spec = tie.close (tie.spec (λ c κs. search needs) returns (λ c κs. search needs) returns-2 (λ c κs. search needs) returns-3)
