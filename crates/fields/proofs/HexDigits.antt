@@ -1,13 +1,14 @@
 -- Hexadecimal digits are tested one by one, or many at once. Assumes nothing.
 use Prim.Native.Nat.{ℕ, zero, suc, _+_, _-_, _≤_, _<_}
 use mathlib.Core.Bool.{Bool, true, false, not}
-use mathlib.Core.List.{List, [], _∷_}
+use mathlib.Core.List.{List}
 use mathlib.Core.Path.{_≡_, refl, sym, ap, _∙_}
 use native.Mathlib.Omega.{arith}
 use lib.ListN.{length, drop, getD, drop-of-length-le}
 use borrow.Author.Tests.{not-false}
 use Rattle.lists.specs.Choice.{both}
-use Rattle.lists.proofs.Choice.{both-yes, both-no}
+use Rattle.lists.specs.Places.{oneIf}
+use Rattle.lists.proofs.Choice.{not-so, both-yes, both-no}
 use Rattle.lists.proofs.Counts.{uncounted}
 use Rattle.fields.specs.Fields.{othersInBlock}
 use Rattle.fields.proofs.FieldEnds.{drop-turn}
@@ -38,4 +39,17 @@ pub hex-skip : (l : List ℕ) (i r : ℕ) → hexDigits (drop i l) ≡ hexDigits
 hex-skip l i r e h c z =
     hex-many 64 l i e (omega arith) (λ k b. not-false _ (uncounted (λ j. not (hexDigit (getD l (i + j) 0))) 64 (omega (arith, c)) k b))
 
-pub ruleset hexes = (hex-on, hex-stop, hex-end, hex-skip)
+-- what the count of one byte tells
+pub other-some : (b r : ℕ) → r ≡ oneIf (not (hexDigit b)) → 0 < r → hexDigit b ≡ false
+unfolding oneIf
+other-some b r e h = not-so _ (λ y. let z = ap (λ t. oneIf (not t)) y in omega arith)
+
+pub other-no : (b r : ℕ) → r ≡ oneIf (not (hexDigit b)) → r ≤ 0 → hexDigit b ≡ true
+unfolding oneIf
+other-no b r e h = go (hexDigit b) refl
+  where
+    go : (t : Bool) → hexDigit b ≡ t → hexDigit b ≡ true
+    go true y = y
+    go false n = let z = ap (λ t. oneIf (not t)) n in absurd (omega arith)
+
+pub ruleset hexes = (hex-on, hex-stop, hex-end, hex-skip, other-some, other-no)

@@ -169,15 +169,15 @@ module _ (f : List ℕ) (e : ℕ) (b : Bool) (t : b ≡ hexDigits f) where
       is-field _ _ _ e e (both-intro _ _ (both-intro _ _ (eq-eqb (length f % 2) 0 (omega arith)) (le-leb (length f) 514 h)) (sym t ∙ y)) refl refl
 
 -- one of them
-pub hex-decimal : (b : ℕ) → 48 ≤ b → b ≤ 57 → true ≡ hexDigit b
+hex-decimal : (b : ℕ) → 48 ≤ b → b ≤ 57 → true ≡ hexDigit b
 unfolding hexDigit
 hex-decimal b l h = sym (either-left (digit b) _ (both-intro _ _ (le-leb 48 b l) (le-leb b 57 h)))
 
-pub hex-letter : (b : ℕ) → 65 ≤ b → b ≤ 70 → true ≡ hexDigit b
+hex-letter : (b : ℕ) → 65 ≤ b → b ≤ 70 → true ≡ hexDigit b
 unfolding hexDigit
 hex-letter b l h = sym (either-right (digit b) _ (both-intro _ _ (le-leb 65 b l) (le-leb b 70 h)))
 
-pub hex-none : (b : ℕ) → (48 ≤ b → 57 < b) → (65 ≤ b → 70 < b) → false ≡ hexDigit b
+hex-none : (b : ℕ) → (48 ≤ b → 57 < b) → (65 ≤ b → 70 < b) → false ≡ hexDigit b
 unfolding hexDigit
 hex-none b f g = sym (either-none (digit b) _ (between 48 b 57 f) (between 65 b 70 g))
 

@@ -194,24 +194,6 @@ pub fn read_field(kind: u64, line: &[u8], start: usize) -> Field
     right(line, start)
 }
 
-fn hex_digit(b: u8) -> bool
-    ensures { λ r. ⌜ r ≡ hexDigit b ⌝ }
-{
-    if b < 48 {
-        return false;
-    }
-    if b < 58 {
-        return true;
-    }
-    if b < 65 {
-        return false;
-    }
-    if b < 71 {
-        return true;
-    }
-    false
-}
-
 // A byte that is no digit, as a number. Both tests are of one range each, where the sum wraps.
 fn one_if_other(b: u8) -> u8
     ensures { λ r. ⌜ r ≡ oneIf (not (hexDigit b)) ⌝ }
@@ -256,7 +238,7 @@ fn all_hex(f: &[u8]) -> bool
 {
     let mut i = pass_blocks(f);
     while i < f.len() {
-        if !hex_digit(f[i]) {
+        if 0 < one_if_other(f[i]) {
             return false;
         }
         i += 1;

@@ -7,8 +7,7 @@ use native.Mathlib.Omega.{arith}
 use lib.Dec.{eqb}
 use lib.ListN.{length, drop, length-drop}
 use lib.Seq.{drop-drop, drop-length}
-use borrow.Author.Tests.{eqb-true}
-use Rattle.lists.proofs.Choice.{yes!, no!, both-left, both-right, both-not, true-false}
+use Rattle.lists.proofs.Choice.{yes!, no!, both-left, both-right, both-not}
 use Rattle.model.specs.Lines.{fields, Spelt, is, bad, spelt, hexDigit, hexDigits, hexField, hex, fieldOf, values, unread, andThen, readFields}
 use Rattle.fields.specs.Fields.{firstField, fieldFrom, endFrom}
 use Rattle.fields.proofs.FieldEnds.{drop-turn}

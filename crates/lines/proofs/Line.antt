@@ -14,9 +14,8 @@ use Rattle.model.specs.Lines.{fields, is, forms, makeBy, readFields, readBy, re
 use Rattle.fields.specs.declared.Field.{Field}
 use Rattle.fields.specs.declared.Field.the-variants.{Is, Bad}
 use Rattle.fields.specs.Fields.{fieldFrom, endFrom, found, wordField}
-use Rattle.fields.proofs.Readings.{Bytes}
 use Rattle.fields.proofs.Spelling.{as-is, as-bad}
-use Rattle.lines.specs.Fields.{following, Last, DataAt}
+use Rattle.lines.specs.Fields.{following, DataAt}
 use Rattle.lines.specs.Tables.{calls, formAt, placeOf}
 use Rattle.lines.proofs.Cuts.{fields-at, end-inside}
 use Rattle.lines.proofs.Words.{first-bytes, read-unnamed, read-unknown, read-known}

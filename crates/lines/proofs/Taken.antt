@@ -13,10 +13,10 @@ use lib.ListN.{length, getD, take, drop, set, length-set, length-drop, drop-of-l
 use lib.Seq.{drop-drop, getD-drop, getD-take, take-all, take-suc-set}
 use Rattle.fields.specs.declared.Field.{Field}
 use Rattle.fields.specs.declared.Field.the-variants.{Is, Bad}
-use Rattle.fields.specs.Fields.{fieldFrom, endFrom, found, kindNumber, shortKind}
+use Rattle.fields.specs.Fields.{fieldFrom, endFrom, found, shortKind}
 use Rattle.fields.proofs.KindNumbers.{kind-is, kind-data, data-kind}
 use Rattle.fields.proofs.Spelling.{as-is, as-bad, spelt-is}
-use Rattle.lines.specs.Fields.{following, Last, DataAt}
+use Rattle.lines.specs.Fields.{following, DataAt}
 use Rattle.lines.specs.Tables.{calls, formAt, shapeOf, lowered, madeBy}
 use Rattle.lines.proofs.Cuts.{fields-at, end-inside, following-at, data-alone, data-last}
 use Rattle.lines.proofs.Storing.{storing-at, with-data, without-data}
@@ -25,7 +25,7 @@ use Rattle.lines.proofs.Values.{lowered-is}
 use Rattle.lists.proofs.Choice.{both-right}
 use Rattle.model.specs.declared.Request.{Request}
 use Rattle.model.specs.declared.Request.the-variants.{NotRead}
-use Rattle.model.specs.Lines.{Spelt, is, makeBy, Values, values, unread, andThen, FieldKind, number, hex, fieldOf, hexDigits, hexField, readFields, stores}
+use Rattle.model.specs.Lines.{Spelt, is, makeBy, Values, values, unread, andThen, FieldKind, number, hex, fieldOf, hexField, readFields, stores}
 
 -- the values ns after those of vs, where all are read
 unfoldable pub after : List ℕ → Values → Values

@@ -3,7 +3,6 @@ use Prim.Native.Nat.{_-_, _≤_}
 use mathlib.Core.Path.{_≡_}
 use native.Mathlib.Omega.{arith}
 use lib.ListN.{length, drop}
-use Rattle.lists.proofs.Rules.{calls}
 use Rattle.model.specs.Lines.{hexDigits}
 use Rattle.fields.proofs.HexDigits.{hexes}
 use borrow.Author.Needs.{needs}
@@ -17,13 +16,13 @@ abbrev μ-loop : tie.MeasureT-loop
 μ-loop f i₀ i = length f - i
 
 returns : tie.Need-returns Inv-loop μ-loop
-returns c = search (hexes, calls, arith)
+returns c = search (hexes, arith)
 
 loop-again : tie.Need-loop-again Inv-loop μ-loop
-loop-again c = search (hexes, calls, arith)
+loop-again c = search (hexes, arith)
 
 returns-2 : tie.Need-returns-2 Inv-loop μ-loop
-returns-2 c = search (hexes, calls, arith)
+returns-2 c = search (hexes, arith)
 
 pub all-hex-spec : {M : Type 1} → statement M
 all-hex-spec =

@@ -1,6 +1,5 @@
 -- `lines::arguments` meets its contract.
 use mathlib.Core.Path.{_≡_, refl}
-use native.Mathlib.Omega.{arith}
 use lib.ListN.{length, length-set}
 use Rattle.lists.specs.Choice.{both}
 use Rattle.lists.specs.Places.{every, allFrom}
