@@ -165,9 +165,9 @@ unfolding packed
 packed-more v [] g = refl
 packed-more v (b ∷ f) g = packed-more (v * 256 + b) f g
 
-pub letters-start : (l : List ℕ) (s : ℕ) → s ≤ length l → Letters l s 0 s
+pub letters-start : (l : List ℕ) (s : ℕ) → s < length l → Letters l s 0 s
 unfolding noBlank packed
-letters-start l s h = reading-start 256 (λ b. not (eqb b 32)) noBlank packed (λ b. b) 0 0 (λ b bs. refl) (λ v b bs. refl) l s h (omega arith)
+letters-start l s h = reading-start 256 (λ b. not (eqb b 32)) noBlank packed (λ b. b) 0 0 (λ b bs. refl) (λ v b bs. refl) l s (omega arith) (omega arith)
 
 module _ (l : List ℕ) (s v i : ℕ) (r : Letters l s v i) where
   pub letters-turn : (w : ℕ) → i < length l → (getD l i 0 ≡ 9 → ⊥) → (getD l i 0 ≡ 32 → ⊥) → Bytes l → w ≡ getD l i 0 → Letters l s (v * 256 + w) (i + 1)

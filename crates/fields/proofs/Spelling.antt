@@ -98,6 +98,10 @@ number-done f r v a e y z p q t =
     t ∙ rw (p, q) (ap (λ b. found (spelt b (decimalFrom 0 f)) e) (sym (both-yes _ (both-intro _ _ y z))))
 
 -- a name
+pub name-none : (f : List ℕ) (e : ℕ) → f ≡ [] → Bad ≡ found (nameField f) e
+unfolding nameField
+name-none f e p = bad-field _ _ e (both-no _ (both-no _ (lt-leb 1 (length f) (omega (arith, ap length p)))))
+
 pub name-blank : (f : List ℕ) (e : ℕ) → noBlank f ≡ false → Bad ≡ found (nameField f) e
 unfolding nameField
 name-blank f e n = bad-field _ _ e (both-not _ _ n)

@@ -33,6 +33,7 @@ fn ends(line: &[u8], i: usize) -> bool
     true
 }
 
+// What digits spell that were read to their end.
 fn within(v: u64, end: usize) -> Field
     ensures { λ r. ⌜ r ≡ found (spelt (leb v 4294967295) v) end ⌝ }
 {
@@ -42,7 +43,8 @@ fn within(v: u64, end: usize) -> Field
     Field::Is { value: v, end: end }
 }
 
-// A number that starts with a digit other than 0. Its value is tested at each digit, before the digit can make it too large.
+// A number that starts with a digit other than 0. A value that one more digit makes too large is refused before it, so that no
+// sum wraps, however many digits there are.
 fn digits(line: &[u8], start: usize) -> Field
     requires { ⌜ (start < length (now line)) × (48 < getD (now line) start 0) × (getD (now line) start 0 ≤ 57) ⌝ }
     ensures { λ r. ⌜ r ≡ found (numberField (fieldFrom (now (line .entry)) start)) (endFrom (now (line .entry)) start) ⌝ }
@@ -104,6 +106,7 @@ fn padded(v: u64, n: usize) -> u64
     p
 }
 
+// What n bytes spell that were read to their end.
 fn named(v: u64, n: usize, end: usize) -> Field
     requires { ⌜ (n ≤ 8) × (v < 256 ^ n) ⌝ }
     ensures { λ r. ⌜ r ≡ found (spelt (leb 1 n) (packed v (replicate (8 - n) 32))) end ⌝ }
@@ -118,9 +121,11 @@ fn named(v: u64, n: usize, end: usize) -> Field
 }
 
 fn name(line: &[u8], start: usize) -> Field
-    requires { ⌜ start ≤ length (now line) ⌝ }
     ensures { λ r. ⌜ r ≡ found (nameField (fieldFrom (now (line .entry)) start)) (endFrom (now (line .entry)) start) ⌝ }
 {
+    if line.len() <= start {
+        return Field::Bad;
+    }
     let mut v: u64 = 0;
     let mut i = start;
     while i < line.len() {
@@ -140,7 +145,7 @@ fn name(line: &[u8], start: usize) -> Field
     named(v, i - start, i)
 }
 
-// The first field of a line, as a call's name.
+// The first field of a line, as a call's name: a 1 and then its bytes, at most seven.
 pub fn word(line: &[u8]) -> Field
     ensures { λ r. ⌜ r ≡ found (wordField (fieldFrom (now (line .entry)) 0)) (endFrom (now (line .entry)) 0) ⌝ }
 {
@@ -180,9 +185,8 @@ fn right(line: &[u8], start: usize) -> Field
     Field::Bad
 }
 
-// The field that starts at a place. Kinds are 1 a number, 2 a name, and 3 a right; data are read by `data`.
+// The field that starts at a place. Kinds are 1 a number, 2 a name and 3 a right; data are read by `data_field`.
 pub fn read_field(kind: u64, line: &[u8], start: usize) -> Field
-    requires { ⌜ start ≤ length (now line) ⌝ }
     ensures { λ r. ⌜ r ≡ found (fieldOf (shortKind kind) (fieldFrom (now (line .entry)) start)) (endFrom (now (line .entry)) start) ⌝ }
 {
     if kind <= 1 {
@@ -194,7 +198,7 @@ pub fn read_field(kind: u64, line: &[u8], start: usize) -> Field
     right(line, start)
 }
 
-// A byte that is no digit, as a number. Both tests are of one range each, where the sum wraps.
+// A byte that is no digit, as a number to be added up. A difference that wraps tests a range at once.
 fn one_if_other(b: u8) -> u8
     ensures { λ r. ⌜ r ≡ oneIf (not (hexDigit b)) ⌝ }
 {

@@ -27,20 +27,20 @@ fn call_names() -> [u64; CALLS]
     ensures { λ r. ⌜ r ≡ callNames ⌝ }
 {
     [
-        0x14652414d4553,
-        0x1454e524f4c,
-        0x1435245415445,
-        0x144455354524f59,
-        0x15045524d4954,
-        0x149534f4c415445,
-        0x15155455259,
-        0x1414444,
-        0x152454d4f5645,
-        0x14c4f4144,
-        0x14d4f4445,
-        0x14645544348,
-        0x153544f5245,
-        0x15245534554,
+        0x14652414d4553, // FRAMES
+        0x1454e524f4c, // ENROL
+        0x1435245415445, // CREATE
+        0x144455354524f59, // DESTROY
+        0x15045524d4954, // PERMIT
+        0x149534f4c415445, // ISOLATE
+        0x15155455259, // QUERY
+        0x1414444, // ADD
+        0x152454d4f5645, // REMOVE
+        0x14c4f4144, // LOAD
+        0x14d4f4445, // MODE
+        0x14645544348, // FETCH
+        0x153544f5245, // STORE
+        0x15245534554, // RESET
     ]
 }
 
@@ -67,7 +67,7 @@ fn call_shape(place: usize) -> u64
     }
 }
 
-// The number of the call that a name names, or how many there are.
+// The number of the call that a name names, or how many there are. The compiler makes a few comparisons of the search.
 fn call_place(word: u64) -> usize
     ensures { λ r. ⌜ r ≡ placeOf word ⌝ }
 {
