@@ -1,14 +1,14 @@
-// One field of a line, read where it stands, in one pass: what it spells is `fieldOf` of the model. And the bytes that
-// hexadecimal digits spell, `hexBytes`.
-ghost use Prim.Native.Nat.{_+_, _-_, _*_, _/_, _%_, _^_, _≤_, _<_};
-ghost use mathlib.Core.Bool.{true, not};
+// One field of a line, read where it stands, in one pass: what it spells is `fieldOf` of the model.
+ghost use Prim.Native.Nat.{_+_, _-_, _^_, _≤_, _<_};
+ghost use mathlib.Core.Bool.{not};
 ghost use mathlib.Core.Path.{_≡_};
 ghost use lib.Dec.{eqb, leb};
 ghost use lib.ListN.{length, drop, getD, replicate};
-ghost use Rattle.lists.specs.Bytes.{over};
 ghost use Rattle.lists.specs.Places.{oneIf};
-ghost use Rattle.model.specs.Lines.{spelt, numberField, packed, nameField, rightField, hexDigit, hexValue, hexDigits, hexBytes, hexField, fieldOf};
+ghost use Rattle.model.specs.Lines.{spelt, numberField, packed, nameField, rightField, hexDigit, hexDigits, hexField, fieldOf};
 ghost use Rattle.fields.specs.Fields.{fieldFrom, endFrom, found, wordField, shortKind, othersInBlock};
+
+pub mod hexes;
 
 // What a field spells, and where it ends. It spells a number, a name as one number, a right as 0 or 1, or how many bytes of
 // data.
@@ -250,7 +250,7 @@ fn all_hex(f: &[u8]) -> bool
     true
 }
 
-// Data, which run to the line's end: a tab is no digit. They are checked and counted here, and decoded by `decode`.
+// Data, which run to the line's end: a tab is no digit. They are checked and counted here, and decoded by `hexes`.
 pub fn data_field(f: &[u8]) -> Field
     ensures { λ r. ⌜ r ≡ found (hexField (now (f .entry))) (length (now (f .entry))) ⌝ }
 {
@@ -268,46 +268,4 @@ pub fn data_field(f: &[u8]) -> Field
         };
     }
     Field::Bad
-}
-
-fn wide16(b: u8) -> u16
-    ensures { λ r. ⌜ (r ≡ b) × (r < 256) ⌝ }
-{
-    b as u16
-}
-
-// Two digits at once, the first lower: the compiler reads them as one number, and decodes many pairs at a time.
-fn pair(f: &[u8], i: usize) -> u16
-    requires { ⌜ i + i + 1 < length (now f) ⌝ }
-    ensures { λ r. ⌜ (r % 256 ≡ getD (now (f .entry)) (i + i) 0) × (r / 256 ≡ getD (now (f .entry)) (i + i + 1) 0) ⌝ }
-{
-    wide16(f[i + i]) + wide16(f[i + i + 1]) * 256
-}
-
-// The lower four bits, and 9 more for a letter, which has bit 6.
-fn hex_value(b: u16) -> u16
-    requires { ⌜ hexDigit b ≡ true ⌝ }
-    ensures { λ r. ⌜ (r ≡ hexValue b) × (r ≤ 15) ⌝ }
-{
-    b % 16 + b / 64 * 9
-}
-
-fn byte_of(digits: u16) -> u8
-    requires { ⌜ (hexDigit (digits % 256) ≡ true) × (hexDigit (digits / 256) ≡ true) ⌝ }
-    ensures { λ r. ⌜ r ≡ hexValue (digits % 256) * 16 + hexValue (digits / 256) ⌝ }
-{
-    (hex_value(digits % 256) * 16 + hex_value(digits / 256)) as u8
-}
-
-// The bytes that pairs of digits spell, over the first of `out`.
-pub fn decode(f: &[u8], out: &mut [u8])
-    requires { ⌜ (hexDigits (now f) ≡ true) × (length (now f) / 2 ≤ length (now out)) ⌝ }
-    ensures { λ _. ⌜ now (out .exit) ≡ over (now (out .entry)) 0 (hexBytes (now (f .entry))) ⌝ }
-{
-    let n = f.len() / 2;
-    let mut i: usize = 0;
-    while i < n {
-        out[i] = byte_of(pair(f, i));
-        i += 1;
-    }
 }

@@ -167,12 +167,12 @@ module _ (l : List ℕ) (p first : ℕ) (v : List ℕ) (shape e k : ℕ) (t : Ta
         let u : readFields ks fs ≡ values (take k v) = t .whole ∙ rw (d, drop-of-length-le l {i = e} h, append-nil (take k v)) in
         all-made ks fs v k (formAt p .make) r u (omega (arith, length-drop k ks, ap length d)) q
 
-    pub taken-dataless : (r : Request) → r ≡ madeBy p v → DataAt fs l r 0
+    pub taken-dataless : (r : Request) (s : ℕ) → r ≡ madeBy p v → s ≡ 0 → DataAt fs l r s
     unfolding madeBy
-    taken-dataless r q = record {
+    taken-dataless r s q i = record {
       inside = omega arith;
       none = λ _. ap stores q ∙ without-data (formAt p) k (storing-at p (t .call)) none-left (t .short) _;
-      some = λ n. absurd (n refl);
+      some = λ n. absurd (n i);
     }
 
   -- the next field, which is not data, is read
@@ -253,16 +253,17 @@ module _ (l : List ℕ) (p first : ℕ) (v : List ℕ) (shape e k : ℕ) (t : Ta
           let u : readFields ks fs ≡ values (take (k + 1) (set v k w)) = data-whole ∙ rw spells (ap values (sym (ap (λ j. take j (set v k w)) (add-one k) ∙ take-suc-set v k w (omega (arith, t .room))))) in
           all-made ks fs (set v k w) (k + 1) (formAt p .make) m u (omega arith) y
 
-      pub data-found : DataAt fs l m (e + 1)
+      pub data-found : (s : ℕ) → s ≡ e + 1 → DataAt fs l m s
       unfolding madeBy hexField
-      data-found =
+      data-found s i =
           let digits = both-right _ _ (spelt-is _ _ w spells .0) in
           let alone = t .rest ∙ following-at l e h ∙ data-alone field-of-data digits in
-          record {
+          rw i
+          (record {
             inside = omega arith;
             none = λ o. absurd (omega arith);
             some = λ _. (ap stores y ∙ data-left .1 _, record { place = k; is = alone });
-          }
+          })
 
 -- a line that is not read
 pub unread-is : (q x : Request) → q ≡ NotRead → NotRead ≡ x → q ≡ x

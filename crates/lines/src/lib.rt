@@ -200,22 +200,31 @@ fn make(place: usize, v: [u64; MOST_FIELDS]) -> Request
 }
 
 // A request, and where the data of a store start: 0 where it has none.
-struct Parsed {
+struct Outcome {
     request: Request,
     data_at: usize,
 }
 
-fn not_read() -> Parsed
+fn not_read() -> Outcome
     ensures { λ r. ⌜ (r .request ≡ Request.NotRead) × (r .data_at ≡ 0) ⌝ }
 {
-    Parsed {
+    Outcome {
         request: Request::NotRead,
         data_at: 0,
     }
 }
 
+fn parsed(place: usize, values: [u64; MOST_FIELDS], data_at: usize) -> Outcome
+    ensures { λ r. ⌜ (r .request ≡ madeBy place values) × (r .data_at ≡ data_at) ⌝ }
+{
+    Outcome {
+        request: make(place, values),
+        data_at: data_at,
+    }
+}
+
 // The fields after the call's name, which ends at `first`. Each is read up to its tab; data run to the line's end.
-fn arguments(line: &[u8], place: usize, shape: u64, first: usize) -> Parsed
+fn arguments(line: &[u8], place: usize, shape: u64, first: usize) -> Outcome
     requires { ⌜ (place < calls) × (shape ≡ shapeOf (formAt place .kinds)) × (first ≤ length (now line)) ⌝ }
     ensures { λ r. ⌜ (r .request ≡ makeBy (formAt place .make) (readFields (formAt place .kinds) (following (drop first (now (line .entry)))))) × DataAt (following (drop first (now (line .entry)))) (now (line .entry)) (r .request) (r .data_at) ⌝ }
 {
@@ -240,10 +249,7 @@ fn arguments(line: &[u8], place: usize, shape: u64, first: usize) -> Parsed
         if end < line.len() {
             return not_read();
         }
-        return Parsed {
-            request: make(place, values),
-            data_at: 0,
-        };
+        return parsed(place, values, 0);
     }
     if line.len() <= end {
         return not_read();
@@ -253,14 +259,11 @@ fn arguments(line: &[u8], place: usize, shape: u64, first: usize) -> Parsed
         return not_read();
     };
     values[k] = n;
-    Parsed {
-        request: make(place, values),
-        data_at: start,
-    }
+    parsed(place, values, start)
 }
 
 // What a line asks for.
-fn read(line: &[u8]) -> Parsed
+fn read(line: &[u8]) -> Outcome
     ensures { λ r. ⌜ (r .request ≡ readLine (now (line .entry))) × DataAt (fields (now (line .entry))) (now (line .entry)) (r .request) (r .data_at) ⌝ }
 {
     if 600 < line.len() {
@@ -285,11 +288,11 @@ pub fn read_line(line: &[u8], bytes: &mut [u8; 257]) -> Request
     ensures { λ r. ⌜ r ≡ readLine (now (line .entry)) ⌝ }
     ensures { λ _. ⌜ now (bytes .exit) ≡ over (now (bytes .entry)) 0 (dataOf (now (line .entry))) ⌝ }
 {
-    let parsed = read(line);
-    let start = parsed.data_at;
+    let outcome = read(line);
+    let start = outcome.data_at;
     if start == 0 {
-        return parsed.request;
+        return outcome.request;
     }
-    fields::decode(&line[start..], bytes);
-    parsed.request
+    fields::hexes::decode(&line[start..], bytes);
+    outcome.request
 }

@@ -1,8 +1,8 @@
--- `fields::hex_value` meets its contract.
+-- `fields::hexes::hex_value` meets its contract.
 use Rattle.fields.proofs.Spelling.{value-is, value-small}
 use borrow.Author.Needs.{needs}
-use Rattle.fields.proofs.hex_value.Statement.{statement}
-use Rattle.fields.proofs.hex_value.Tie as tie
+use Rattle.fields.proofs.hexes.hex_value.Statement.{statement}
+use Rattle.fields.proofs.hexes.hex_value.Tie as tie
 
 returns : tie.Need-returns
 returns c = (search value-is, search value-small)

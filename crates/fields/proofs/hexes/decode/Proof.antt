@@ -1,10 +1,10 @@
--- `fields::decode` meets its contract.
+-- `fields::hexes::decode` meets its contract.
 use Prim.Native.Nat.{_-_}
 use native.Mathlib.Omega.{arith}
 use Rattle.fields.proofs.Decoding.{Decoded, decoded-none, decoded-first, decoded-second, decoded-turn, decoded-end}
 use borrow.Author.Needs.{needs}
-use Rattle.fields.proofs.decode.Statement.{statement}
-use Rattle.fields.proofs.decode.Tie as tie
+use Rattle.fields.proofs.hexes.decode.Statement.{statement}
+use Rattle.fields.proofs.hexes.decode.Tie as tie
 
 abbrev Inv-loop : tie.InvT-loop
 Inv-loop f out₀ n i₀ out i = Decoded f out₀ out i
