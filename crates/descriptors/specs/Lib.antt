@@ -1,0 +1,2 @@
+-- What reads and writes come to.
+pub mod Came
