@@ -1,4 +1,4 @@
--- A loop that counts newlines. Assumes nothing.
+-- Newlines in joined texts, and a loop that counts them. Assumes nothing.
 use Prim.Native.Nat.{ℕ, suc, _+_, _≤_, _<_}
 use mathlib.Core.Bool.{Bool, true, false}
 use mathlib.Core.List.{List, [], _∷_, _++_}
@@ -20,6 +20,11 @@ pub newlines-most : (l : List ℕ) → newlines l ≤ length l
 unfolding newlines
 newlines-most [] = omega arith
 newlines-most (b ∷ bs) = omega (arith, one-most (eqb b 10), newlines-most bs)
+
+pub newlines-append : (x y : List ℕ) → newlines (x ++ y) ≡ newlines x + newlines y
+unfolding newlines
+newlines-append [] y = omega arith
+newlines-append (b ∷ x) y = let k = newlines-append x y in omega (arith, k)
 
 -- n newlines stand before place i
 pub record Newlines (l : List ℕ) (n i : ℕ) : Type 0 where

@@ -1,0 +1,5 @@
+-- The laws that the proofs of the crate's functions cite.
+pub mod Replies
+pub mod Lines
+pub mod Spoken
+pub mod Parts
