@@ -3,3 +3,5 @@ pub mod Replies
 pub mod Lines
 pub mod Spoken
 pub mod Parts
+pub mod Endings
+pub mod Joined

@@ -1,10 +1,12 @@
 -- How a session from one descriptor to another goes on and ends. The bytes that were read are some `input`, of which its length is
 -- told; the bytes that were written are the first `count` of what the session says to them.
-use Prim.Native.Nat.{ℕ, _≤_, _<_}
+use Prim.Native.Nat.{ℕ, _+_, _≤_, _<_}
 use mathlib.Core.Bool.{Bool, true, false}
 use mathlib.Core.List.{List, _++_}
 use mathlib.Core.Path.{_≡_}
 use lib.ListN.{length, take}
+use Rattle.descriptors.specs.declared.Got.{Got}
+use Rattle.descriptors.specs.declared.Got.the-variants as got
 use Rattle.driver.specs.Feed.{Feed, after, said, lastWords}
 use Rattle.driver.specs.Fed.{closing}
 use Rattle.relay.specs.declared.How.{How}
@@ -28,16 +30,29 @@ pub record PieceTo (f : Feed) (piece : List ℕ) (before : ℕ) (s : Said) (g : 
 abbrev pub allSaid : Feed → (input : List ℕ) → List ℕ
 allSaid f input = said f input ++ lastWords (after f input)
 
--- How the session ended, with scratch then.
-pub data Ran (f : Feed) : How → (line taken written : ℕ) → (scratch : List ℕ) → Type 0 where
+-- How the session ended, with scratch then, where so many bytes had been taken and written before.
+pub data Ran (f : Feed) (t w : ℕ) : How → (line taken written : ℕ) → (scratch : List ℕ) → Type 0 where
   -- all of the input was answered, a last line without a newline too
-  answered : {line taken written : ℕ} {m : List ℕ} (input : List ℕ) → taken ≡ counted (length input) → written ≡ counted (length (allSaid f input))
-      → line ≡ repliedTo (f .line) (allSaid f input) → m ≡ closing (after f input) .session .scratch → Ran f Answered line taken written m
+  answered : {line taken written : ℕ} {m : List ℕ} (input : List ℕ) → taken ≡ counted (t + length input) → written ≡ counted (w + length (allSaid f input))
+      → line ≡ repliedTo (f .line) (allSaid f input) → m ≡ closing (after f input) .session .scratch → Ran f t w Answered line taken written m
   -- a read failed: all lines that had ended were answered, and what is held of another was not
-  unread : {error line taken written : ℕ} {m : List ℕ} (input : List ℕ) → taken ≡ counted (length input) → written ≡ counted (length (said f input))
-      → line ≡ repliedTo (f .line) (said f input) → m ≡ after f input .session .scratch → Ran f (ReadingFailed error) line taken written m
+  unread : {error line taken written : ℕ} {m : List ℕ} (input : List ℕ) → taken ≡ counted (t + length input) → written ≡ counted (w + length (said f input))
+      → line ≡ repliedTo (f .line) (said f input) → m ≡ after f input .session .scratch → Ran f t w (ReadingFailed error) line taken written m
   -- a write failed: so much of the text was written, and not all
-  unwritten : {error line taken written : ℕ} {m : List ℕ} (input : List ℕ) (count : ℕ) → taken ≡ counted (length input) → count < length (allSaid f input)
-      → written ≡ counted count → line ≡ repliedTo (f .line) (take count (allSaid f input)) → Ran f (WritingFailed error) line taken written m
+  unwritten : {error line taken written : ℕ} {m : List ℕ} (input : List ℕ) (count : ℕ) → taken ≡ counted (t + length input) → count < length (allSaid f input)
+      → written ≡ counted (w + count) → line ≡ repliedTo (f .line) (take count (allSaid f input)) → Ran f t w (WritingFailed error) line taken written m
+
+-- What a read that brought no bytes leads to: only at the end of the input is the session answered to its end.
+pub data Stops : Got → How → Type 0 where
+  ended : Stops got.End Answered
+  endedUnwritten : {error : ℕ} → Stops got.End (WritingFailed error)
+  failed : {error : ℕ} → Stops (got.Failed error) (ReadingFailed error)
+  interrupted : Stops got.Interrupted (ReadingFailed 4)
+  -- not asked
+  brought : {n : ℕ} → Stops (got.Bytes n) (ReadingFailed 0)
+
+-- A whole session, with its header.
+pub data RunTo (f : Feed) : How → (line taken written : ℕ) → (scratch : List ℕ) → Type 0 where
+  headed : {how : How} {line taken written : ℕ} {m : List ℕ} → Ran f 0 0 how line taken written m → RunTo f how line taken written m
   -- the header could not be written, and nothing was read
-  unheaded : {error : ℕ} {m : List ℕ} → m ≡ f .session .scratch → Ran f (WritingFailed error) 0 0 0 m
+  unheaded : {error : ℕ} → RunTo f (WritingFailed error) 0 0 0 (f .session .scratch)

@@ -1,12 +1,13 @@
 // A session from one descriptor to another. What is decided between two calls of the system has a promise, and so has the whole:
 // which bytes were read and written no promise can say, but how many, and that the session went over all of them.
 ghost use Prim.Native.Nat.{_≤_};
+ghost use mathlib.Core.List.{[]};
 ghost use mathlib.Core.Path.{_≡_};
 ghost use lib.ListN.{length};
 ghost use Rattle.driver.specs.Feed.{newFeed};
 ghost use Rattle.driver.specs.Fed.{feedOf};
 ghost use Rattle.relay.specs.Spoken.{repliedTo, Spoken};
-ghost use Rattle.relay.specs.Ran.{PartTo, PieceTo, Ran};
+ghost use Rattle.relay.specs.Ran.{PartTo, PieceTo, Ran, Stops, RunTo};
 use descriptors::Got;
 use driver::Session;
 
@@ -140,4 +141,142 @@ fn answer_piece(
             written: w,
         },
     }
+}
+
+// The end of the input: a last line without a newline is answered.
+fn answer_end(
+    to: i32,
+    session: Session,
+    held: &[u8; 601],
+    scratch: &mut [u8],
+    out: &mut [u8],
+    taken: u64,
+    written: u64,
+) -> Ending
+    requires { ⌜ 600 ≤ length (now out) ⌝ }
+    ensures { λ r. ⌜ Ran (feedOf session (now (held .entry)) (now (scratch .entry))) taken written (r .how) (r .line) (r .taken) (r .written) (now (scratch .exit)) ⌝ }
+    ensures { λ r. ⌜ Stops Got.End (r .how) ⌝ }
+{
+    let line = session.line;
+    let last = driver::finish(session, held, scratch, out);
+    let n = last.written;
+    let said = say(to, &out[0..n], line, written);
+    if said.failed {
+        return Ending {
+            how: How::WritingFailed { error: said.error },
+            line: said.line,
+            taken: taken,
+            written: said.written,
+        };
+    }
+    Ending {
+        how: How::Answered,
+        line: replied(line, &out[0..n]),
+        taken: taken,
+        written: said.written,
+    }
+}
+
+// A read that failed: what is held of a line is no line.
+fn leave(error: u32, line: u64, taken: u64, written: u64) -> Ending
+    ensures { λ r. ⌜ (r .how ≡ How.ReadingFailed error) × (r .line ≡ repliedTo line []) × (r .taken ≡ taken) × (r .written ≡ written) ⌝ }
+{
+    Ending {
+        how: How::ReadingFailed { error: error },
+        line: replied(line, &[]),
+        taken: taken,
+        written: written,
+    }
+}
+
+// A read that brought no bytes: it was at the end of the input, or it failed.
+fn answer_stop(
+    to: i32,
+    got: Got,
+    session: Session,
+    held: &[u8; 601],
+    scratch: &mut [u8],
+    out: &mut [u8],
+    taken: u64,
+    written: u64,
+) -> Ending
+    requires { ⌜ 600 ≤ length (now out) ⌝ }
+    ensures { λ r. ⌜ Ran (feedOf session (now (held .entry)) (now (scratch .entry))) taken written (r .how) (r .line) (r .taken) (r .written) (now (scratch .exit)) ⌝ }
+    ensures { λ r. ⌜ Stops got (r .how) ⌝ }
+{
+    match got {
+        Got::End => answer_end(to, session, held, scratch, out, taken, written),
+        Got::Failed { error } => leave(error, session.line, taken, written),
+        Got::Interrupted => leave(4, session.line, taken, written),
+        Got::Bytes { count: _ } => leave(0, session.line, taken, written),
+    }
+}
+
+// Reads to the end of the input. A proved loop has to end, so this one counts its reads down, from a number that no run uses up.
+fn answer_input(
+    from: i32,
+    to: i32,
+    session: Session,
+    held: &mut [u8; 601],
+    scratch: &mut [u8],
+    input: &mut [u8],
+    out: &mut [u8],
+) -> Ending
+    requires { ⌜ 600 ≤ length (now out) ⌝ }
+    ensures { λ r. ⌜ Ran (feedOf session (now (held .entry)) (now (scratch .entry))) 0 0 (r .how) (r .line) (r .taken) (r .written) (now (scratch .exit)) ⌝ }
+{
+    let mut s = session;
+    let mut taken = 0u64;
+    let mut w = 0u64;
+    let mut reads = u64::MAX;
+    while reads > 0 {
+        let got = descriptors::read_some(from, input);
+        let Got::Bytes { count } = got else {
+            return answer_stop(to, got, s, held, scratch, out, taken, w);
+        };
+        let piece = answer_piece(to, s, held, scratch, &input[0..count], out, w);
+        taken = std::num::wrapping_add_u64(taken, count as u64);
+        let said = piece.said;
+        if said.failed {
+            return Ending {
+                how: How::WritingFailed { error: said.error },
+                line: said.line,
+                taken: taken,
+                written: said.written,
+            };
+        }
+        s = piece.session;
+        w = said.written;
+        reads -= 1;
+    }
+    answer_stop(to, Got::Interrupted, s, held, scratch, out, taken, w)
+}
+
+// A whole session: a header and the replies go to `to`, for the requests that come from `from`. The memory that it takes is the
+// same however long the input is.
+pub fn run(from: i32, to: i32, scratch: &mut [u8; 32768]) -> Ending
+    ensures { λ r. ⌜ RunTo (newFeed (now (scratch .entry))) (r .how) (r .line) (r .taken) (r .written) (now (scratch .exit)) ⌝ }
+{
+    let mut held = [0u8; 601];
+    let mut out = io::large_buffer();
+    let n = replies::put_header(&mut out);
+    let head = descriptors::send(to, &out[0..n]);
+    if head.count < n {
+        return Ending {
+            how: How::WritingFailed { error: head.error },
+            line: 0,
+            taken: 0,
+            written: 0,
+        };
+    }
+    let mut input = [0u8; 16384];
+    answer_input(
+        from,
+        to,
+        driver::open(),
+        &mut held,
+        scratch,
+        &mut input,
+        &mut out,
+    )
 }
