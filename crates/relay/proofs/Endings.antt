@@ -8,13 +8,14 @@ use native.Mathlib.Omega.{arith}
 use lib.ListN.{length, take}
 use Rattle.descriptors.specs.declared.Got.{Got}
 use Rattle.descriptors.specs.declared.Got.the-variants as got
-use Rattle.driver.specs.Feed.{Feed, after, said, lastWords}
-use Rattle.driver.specs.Fed.{closing, FinishedTo, finished, full}
+use Rattle.driver.specs.declared.Session.{Session}
+use Rattle.driver.specs.Feed.{Feed, after, said, lastWords, newFeed}
+use Rattle.driver.specs.Fed.{feedOf, opened, closing, FinishedTo, finished, full}
 use Rattle.relay.specs.declared.Ending.{Ending}
 use Rattle.relay.specs.declared.How.{How}
 use Rattle.relay.specs.declared.How.the-variants.{Answered, ReadingFailed, WritingFailed}
 use Rattle.relay.specs.Spoken.{counted, repliedTo, Spoken}
-use Rattle.relay.specs.Ran.{allSaid, Ran, answered, unread, unwritten, Stops, failed, interrupted, brought}
+use Rattle.relay.specs.Ran.{allSaid, Ran, answered, unread, unwritten, Stops, failed, interrupted, brought, RunTo, headed}
 use Rattle.relay.proofs.Parts.{wrote-text}
 
 -- no input
@@ -81,3 +82,9 @@ stops-interrupted e q = stops-so e q interrupted
 
 pub stops-brought : {g : Got} {h : How} {n : ℕ} → g ≡ got.Bytes n → h ≡ ReadingFailed 0 → Stops g h
 stops-brought e q = stops-so e q brought
+
+-- a session from its start
+pub run-headed : {s : Session} (held scratch : List ℕ) {how : How} {line taken written : ℕ} {m : List ℕ} → s ≡ opened
+    → Ran (feedOf s held scratch) 0 0 how line taken written m → RunTo (newFeed scratch) how line taken written m
+run-headed held scratch {how} {line} {taken} {written} {m} e r =
+    headed (subst (λ (k : Session). Ran (feedOf k held scratch) 0 0 how line taken written m) e r)
