@@ -1,96 +1,101 @@
-// The session program: requests from standard input, one a line; a header and then one reply a line to standard output. The
-// memory that it takes is the same however long the input is.
-ghost use Prim.Native.Nat.{_≤_};
+// The session program: requests from standard input, one a line; a header and then one reply a line to standard output. Where a
+// read or a write fails it says so on standard error. The memory that it takes is the same however long the input is.
+ghost use Prim.Native.Nat.{_+_, _≤_};
 ghost use lib.ListN.{length};
-use driver::Session;
+ghost use Rattle.digits.specs.Wrote.{Wrote};
+ghost use Rattle.session.specs.Message.{failureText, placeText, messageText};
+use relay::How;
 
-// Where the session stands, and whether the output still takes what is written.
-struct Stand {
-    open: bool,
-    session: Session,
+fn put_text(out: &mut [u8], at: usize, text: &[u8]) -> usize
+    requires { ⌜ at + length (now text) ≤ length (now out) ⌝ }
+    ensures { λ r. ⌜ Wrote (now (out .entry)) at (now (text .entry)) (now (out .exit)) r ⌝ }
+{
+    moves::put(&mut out[at..], text);
+    at + text.len()
 }
 
-// The first `n` bytes of `out` are written; false where that failed.
-fn say(out: &[u8], n: usize) -> bool
-    requires { ⌜ n ≤ length (now out) ⌝ }
+// What failed, and the number of the error.
+fn put_failure(out: &mut [u8], reading: bool, error: u32) -> usize
+    requires { ⌜ 51 ≤ length (now out) ⌝ }
+    ensures { λ r. ⌜ Wrote (now (out .entry)) 0 (failureText reading error) (now (out .exit)) r ⌝ }
+    ensures short { λ r. ⌜ r ≤ 51 ⌝ }
 {
-    io::write_all(libc::STDOUT_FILENO, &out[0..n])
-}
-
-fn say_header(out: &mut [u8]) -> bool
-    requires { ⌜ 18 ≤ length (now out) ⌝ }
-{
-    let n = replies::put_header(out);
-    say(out, n)
-}
-
-// The bytes of one read: they are fed, and the replies written, as often as the replies fill the room for them.
-fn answer_piece(
-    session: Session,
-    held: &mut [u8; 601],
-    scratch: &mut [u8],
-    input: &[u8],
-    out: &mut [u8],
-) -> Stand
-    requires { ⌜ 600 ≤ length (now out) ⌝ }
-{
-    let mut s = session;
-    let mut from: usize = 0;
-    while from < input.len() {
-        let fed = driver::feed(s, held, scratch, &input[from..], out);
-        s = fed.session;
-        from += fed.used;
-        if !say(out, fed.written) {
-            return Stand {
-                open: false,
-                session: s,
-            };
-        }
+    if reading {
+        let a = put_text(out, 0, b"session: reading failed (error ");
+        return digits::put_decimal(out, a, error as u64);
     }
-    Stand {
-        open: true,
-        session: s,
-    }
+    let a = put_text(out, 0, b"session: writing failed (error ");
+    digits::put_decimal(out, a, error as u64)
 }
 
-// Reads to the end of the input; a read that fails ends it. A proved loop has to end, so this one counts its reads down, from a
-// number that no run uses up.
-fn answer_input(session: Session, held: &mut [u8; 601], scratch: &mut [u8], out: &mut [u8]) -> Stand
-    requires { ⌜ 600 ≤ length (now out) ⌝ }
+// The last line whose reply was written whole.
+fn put_place(out: &mut [u8], at: usize, line: u64) -> usize
+    requires { ⌜ at + 47 ≤ length (now out) ⌝ }
+    ensures { λ r. ⌜ Wrote (now (out .entry)) at (placeText line) (now (out .exit)) r ⌝ }
 {
-    let mut input = io::large_buffer();
-    let mut stand = Stand {
-        open: true,
-        session: session,
-    };
-    let mut reads = u64::MAX;
-    while reads > 0 && stand.open {
-        let got = libc::read(libc::STDIN_FILENO, &mut input);
-        if got <= 0 {
-            return stand;
-        }
-        let n = io::count(got, &input);
-        stand = answer_piece(stand.session, held, scratch, &input[..n], out);
-        reads -= 1;
+    if line == 0 {
+        return put_text(out, at, b") before the first reply\n");
     }
-    stand
+    let b = put_text(out, at, b") after the reply to line ");
+    let c = digits::put_decimal(out, b, line);
+    digits::put_byte(out, c, b'\n')
 }
 
-// The end of the input: a last line without a newline is answered.
-fn answer_end(session: Session, held: &[u8; 601], scratch: &mut [u8], out: &mut [u8]) {
-    let last = driver::finish(session, held, scratch, out);
-    say(out, last.written);
+fn put_message(out: &mut [u8], reading: bool, error: u32, line: u64) -> usize
+    requires { ⌜ 98 ≤ length (now out) ⌝ }
+    ensures { λ r. ⌜ Wrote (now (out .entry)) 0 (messageText reading error line) (now (out .exit)) r ⌝ }
+{
+    let at = put_failure(out, reading, error);
+    put_place(out, at, line)
+}
+
+// One line on standard error.
+fn complain(reading: bool, error: u32, line: u64) {
+    let mut text = [0u8; 128];
+    let n = put_message(&mut text, reading, error, line);
+    descriptors::send(libc::STDERR_FILENO, &text[0..n]);
+}
+
+fn serve() {
+    let mut scratch = [0u8; 32768];
+    let end = relay::run(libc::STDIN_FILENO, libc::STDOUT_FILENO, &mut scratch);
+    let how = end.how;
+    match how {
+        How::Answered => {}
+        How::ReadingFailed { error } => complain(true, error, end.line),
+        How::WritingFailed { error } => complain(false, error, end.line),
+    }
+}
+
+fn asks_for_help() -> bool {
+    if os::arg_count() != 2 {
+        return false;
+    }
+    let mut word = [0u8; 6];
+    let n = os::arg(1, &mut word);
+    check::same(&word[..n], b"--help")
+}
+
+fn help() {
+    let text =
+        b"session < REQUESTS > REPLIES\n\nOne request a line, its fields parted by tabs (here by blanks):\n  FRAMES F                                  F 1 to 8; once, before all calls\n  ENROL caller pages allowance share L ASF  share and ASF 0 or 1\n  CREATE caller name pages\n  DESTROY caller space\n  PERMIT caller space guest R|W\n  ISOLATE caller space\n  QUERY caller owner name\n  ADD caller space R|W\n  REMOVE caller token\n  LOAD caller register value\n  MODE caller 0|1                           0 primary, 1 access-register\n  FETCH caller register address length\n  STORE caller register address HEX         data as uppercase hex pairs\n  RESET caller\n\nA header, then one reply a line: line number, answer number, value or \"-\".\nA read or a write that fails is told on standard error.\n";
+    let sent = descriptors::send(libc::STDOUT_FILENO, text);
+    if sent.count < text.len() {
+        os::fail(b"session --help");
+    }
 }
 
 fn main() {
-    let mut held = [0u8; 601];
-    let mut scratch = [0u8; 32768];
-    let mut out = io::large_buffer();
-    if !say_header(&mut out) {
+    if os::arg_count() < 2 {
+        serve();
         return;
     }
-    let end = answer_input(driver::open(), &mut held, &mut scratch, &mut out);
-    if end.open {
-        answer_end(end.session, &held, &mut scratch, &mut out);
+    if asks_for_help() {
+        help();
+        return;
     }
+    descriptors::send(
+        libc::STDERR_FILENO,
+        b"session: takes no argument but --help; requests come from standard input\n",
+    );
 }

@@ -1,0 +1,2 @@
+-- What the program says of a failure.
+pub mod Message
