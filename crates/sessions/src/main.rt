@@ -1,5 +1,7 @@
 // Runs the session files that its arguments name. Of each it prints the name and the whole output of the session; then it runs
-// the file again in other pieces and with less room for replies, and says whether the output was the same.
+// the file again in other pieces, with less room for replies, and from the file to another file, and says whether the output was
+// the same.
+mod files;
 mod runs;
 
 ghost use Prim.Native.Nat.{_≤_};
@@ -49,14 +51,24 @@ fn compare_rooms(input: &[u8], want: &[u8]) {
     say(b"same in 8 rooms\n");
 }
 
-fn compare(input: &[u8], want: &[u8]) {
+// From the file to a file, which is read back.
+fn compare_files(path: &[u8], input: &[u8], want: &[u8]) {
+    if !files::is_same(path, input.len(), want) {
+        say(b"DIFFERS from file to file\n");
+        return;
+    }
+    say(b"same from file to file\n");
+}
+
+fn compare(path: &[u8], input: &[u8], want: &[u8]) {
     compare_cuts(input, want);
     compare_bytes(input, want);
     compare_rooms(input, want);
+    compare_files(path, input, want);
 }
 
 // The text of the session is the first `n` bytes.
-fn show_text(input: &[u8], text: &[u8], n: usize)
+fn show_text(path: &[u8], input: &[u8], text: &[u8], n: usize)
     requires { ⌜ n ≤ length (now text) ⌝ }
 {
     if n == text.len() {
@@ -64,13 +76,13 @@ fn show_text(input: &[u8], text: &[u8], n: usize)
         return;
     }
     say(&text[0..n]);
-    compare(input, &text[0..n]);
+    compare(path, input, &text[0..n]);
 }
 
-fn show_session(input: &[u8]) {
+fn show_session(path: &[u8], input: &[u8]) {
     let mut text = io::large_buffer();
     let n = runs::run_whole(input, &mut text);
-    show_text(input, &text, n);
+    show_text(path, input, &text, n);
 }
 
 fn show_file(path: &[u8]) {
@@ -89,7 +101,7 @@ fn show_file(path: &[u8]) {
         say(b"too long\n");
         return;
     }
-    show_session(&input[..n]);
+    show_session(path, &input[..n]);
 }
 
 fn show_argument(i: usize) {
