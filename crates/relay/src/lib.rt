@@ -252,9 +252,9 @@ fn answer_input(
     answer_stop(to, Got::Interrupted, s, held, scratch, out, taken, w)
 }
 
-// A whole session: a header and the replies go to `to`, for the requests that come from `from`. The memory that it takes is the
-// same however long the input is.
-pub fn run(from: i32, to: i32, scratch: &mut [u8; 32768]) -> Ending
+// A whole session: a header and the replies go to `to`, for the requests that come from `from`. One read brings at most as many
+// bytes as `room` has. The memory that it takes is the same however long the input is.
+pub fn run(from: i32, to: i32, scratch: &mut [u8; 32768], room: &mut [u8]) -> Ending
     ensures { λ r. ⌜ RunTo (newFeed (now (scratch .entry))) (r .how) (r .line) (r .taken) (r .written) (now (scratch .exit)) ⌝ }
 {
     let mut held = [0u8; 601];
@@ -269,14 +269,5 @@ pub fn run(from: i32, to: i32, scratch: &mut [u8; 32768]) -> Ending
             written: 0,
         };
     }
-    let mut input = [0u8; 16384];
-    answer_input(
-        from,
-        to,
-        driver::open(),
-        &mut held,
-        scratch,
-        &mut input,
-        &mut out,
-    )
+    answer_input(from, to, driver::open(), &mut held, scratch, room, &mut out)
 }

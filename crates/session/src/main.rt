@@ -58,7 +58,13 @@ fn complain(reading: bool, error: u32, line: u64) {
 
 fn serve() {
     let mut scratch = [0u8; 32768];
-    let end = relay::run(libc::STDIN_FILENO, libc::STDOUT_FILENO, &mut scratch);
+    let mut room = io::large_buffer();
+    let end = relay::run(
+        libc::STDIN_FILENO,
+        libc::STDOUT_FILENO,
+        &mut scratch,
+        &mut room,
+    );
     let how = end.how;
     match how {
         How::Answered => {}

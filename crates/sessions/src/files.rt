@@ -1,4 +1,4 @@
-// A session from a file to a file, by the loop that the session program uses.
+// A session from a file to a file, by the loop that the session program uses, in reads of 4,096 bytes.
 use relay::Ending;
 use relay::How;
 
@@ -35,7 +35,8 @@ pub(crate) fn is_same(path: &[u8], size: usize, want: &[u8]) -> bool {
         return false;
     }
     let mut scratch = [165u8; 32768];
-    let end = relay::run(from, to, &mut scratch);
+    let mut room = io::buffer();
+    let end = relay::run(from, to, &mut scratch, &mut room);
     libc::close(from);
     libc::close(to);
     if !is_whole(end, size, want.len()) {

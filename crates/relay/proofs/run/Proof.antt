@@ -9,7 +9,7 @@ returns : tie.Need-returns
 returns c = unheaded
 
 returns-2 : tie.Need-returns-2
-returns-2 c = run-headed _ _ (c .before .before .before .before .before .before .before .«open» .ensures) (c .before .before .answer-input .ensures)
+returns-2 c = run-headed _ _ (c .before .before .before .before .before .before .before .before .«open» .ensures) (c .before .before .before .answer-input .ensures)
 
 pub run-spec : {M : Type 1} → statement M
 run-spec =
@@ -25,6 +25,6 @@ run-spec =
     returns
     (λ c κs. search needs)
     (λ c. search needs)
-    (λ c. search needs)
     (λ c κs. search needs)
+    (λ c. search needs)
     returns-2)
