@@ -1,5 +1,5 @@
 -- The number of the next line counts the replies. Assumes nothing.
-use Prim.Native.Nat.{ℕ, _+_, _%_, _<_}
+use Prim.Native.Nat.{ℕ, _+_, _<_}
 use mathlib.Core.Bool.{Bool, true, false}
 use mathlib.Core.List.{List, [], _∷_, _++_}
 use mathlib.Core.Path.{_≡_, refl, sym, ap, _∙_}
@@ -7,8 +7,7 @@ use native.Mathlib.Nat.{mod-lt, mod-eq-of-lt, mod-add-mod}
 use native.Mathlib.Omega.{arith}
 use lib.Dec.{eqb, lit<}
 use Rattle.lists.specs.Choice.{choose}
-use Rattle.model.specs.Session.{nextLine}
-use Rattle.driver.specs.Feed.{Feed, ended, holding, replyTo, next, says, after, said}
+use Rattle.driver.specs.Feed.{Feed, ended, replyTo, next, says, after, said}
 use Rattle.descriptors.specs.Came.{newlines}
 use Rattle.descriptors.proofs.Newlines.{newlines-append}
 use Rattle.relay.specs.Spoken.{counted}

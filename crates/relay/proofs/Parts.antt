@@ -1,5 +1,5 @@
 -- The parts of a piece, fed and answered one after another. Assumes nothing.
-use Prim.Native.Nat.{ℕ, _+_, _-_, _%_, _≤_, _<_}
+use Prim.Native.Nat.{ℕ, _+_, _-_, _≤_, _<_}
 use mathlib.Core.Bool.{Bool, true, false}
 use mathlib.Core.List.{List, _++_, append-assoc}
 use mathlib.Core.Path.{_≡_, refl, sym, ap, _∙_, subst}
@@ -12,7 +12,7 @@ use Rattle.lists.proofs.Choice.{true-false}
 use Rattle.digits.specs.Wrote.{Wrote}
 use Rattle.driver.specs.Feed.{Feed, after, said}
 use Rattle.driver.specs.Fed.{FedTo}
-use Rattle.driver.proofs.Bounds.{fed-within, fed-some}
+use Rattle.driver.proofs.Bounds.{fed-some}
 use Rattle.driver.proofs.Pieces.{after-append, said-append}
 use Rattle.relay.specs.declared.Said.{Said}
 use Rattle.relay.specs.Spoken.{counted, Spoken}

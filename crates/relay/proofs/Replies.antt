@@ -1,9 +1,8 @@
 -- A reply has one newline, its last byte. So the newlines of a text of replies count its replies. Assumes nothing.
-use Prim.Native.Nat.{ℕ, zero, suc, _+_, _*_, _/_, _%_, _≤_, _<_}
+use Prim.Native.Nat.{ℕ, zero, suc, _+_, _/_, _%_}
 use mathlib.Core.Bool.{Bool, true, false}
 use mathlib.Core.List.{List, [], _∷_, _++_}
-use mathlib.Core.Path.{_≡_, refl, sym, ap, _∙_}
-use native.Mathlib.Nat.{mod-lt}
+use mathlib.Core.Path.{_≡_, refl, _∙_}
 use native.Mathlib.Omega.{arith}
 use borrow.Author.Tests.{ne-eqb}
 use lib.Dec.{eqb, ltb}
@@ -13,7 +12,6 @@ use Rattle.lists.proofs.Counting.{one-no}
 use Rattle.model.specs.Answers.{number, value}
 use Rattle.model.specs.Classes.{Shows, noValue, itsValue, itsBytes, classOf}
 use Rattle.model.specs.declared.Answer.{Answer}
-use Rattle.model.specs.declared.Operation.{Operation}
 use Rattle.model.specs.declared.Request.{Request}
 use Rattle.model.specs.declared.Request.the-variants as request
 use Rattle.model.specs.Session.{LineOutcome, decimalBy, decimal, hexLetter, hexText, dash, shown, doneText, requestText, valueText, lineText}

@@ -1,7 +1,7 @@
 -- How a session from one descriptor to another goes on and ends. The bytes that were read are some `input`, of which its length is
 -- told; the bytes that were written are the first `count` of what the session says to them.
 use Prim.Native.Nat.{ℕ, _+_, _≤_, _<_}
-use mathlib.Core.Bool.{Bool, true, false}
+use mathlib.Core.Bool.{false}
 use mathlib.Core.List.{List, _++_}
 use mathlib.Core.Path.{_≡_}
 use lib.ListN.{length, take}
