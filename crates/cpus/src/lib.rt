@@ -44,10 +44,7 @@ pub fn load(s: State, caller: Caller, register: u32, value: u32) -> Reply
     requires { ⌜ sound s ≡ true ⌝ }
     ensures { λ r. ⌜ r ≡ replied s (judge s (callOf caller (Load register value)) 0) ⌝ }
 {
-    let operation = Operation::Load {
-        register: register,
-        value: value,
-    };
+    let operation = Operation::Load { register, value };
     let v = views::seen_in(s, views::asked_by(Call { caller, operation }));
     edits::carried(s, decide_load(v, register, value))
 }
@@ -89,7 +86,7 @@ pub fn mode(s: State, caller: Caller, mode: u32) -> Reply
     requires { ⌜ sound s ≡ true ⌝ }
     ensures { λ r. ⌜ r ≡ replied s (judge s (callOf caller (Mode mode)) 0) ⌝ }
 {
-    let operation = Operation::Mode { mode: mode };
+    let operation = Operation::Mode { mode };
     let v = views::seen_in(s, views::asked_by(Call { caller, operation }));
     edits::carried(s, decide_mode(v, mode))
 }
