@@ -53,7 +53,7 @@ pub record Aimed (s : State) (g r : ℕ) (x : Translation) : Type 0 where
   pub is : x ≡ translate s g (tokenUsed (cpuAt (s .cpus) (guestPlace g)) r)
 
 abbrev pub throughRegister : (guest register : ℕ) → Asks
-throughRegister g r = record { caller = g; other = g; uses = Register r; sought = Nothing }
+throughRegister g r = record { caller = g; other = g; uses = Register r; sought = Nothing; takes = false }
 
 -- the call o of guest g has been seen, through register r
 module _ (s : State) (g r : ℕ) (o : Operation) (v : View) (asks : asksBy g o ≡ throughRegister g r) (e : v ≡ viewOf s (asksBy g o)) (l : v .place < 8) (b : r ≤ 15) where

@@ -129,11 +129,18 @@ fn feed_lines(
             let x = state.spaces[slot];
             search = views::advance(search, x);
         }
+        let mut take = views::take_from(asks.takes, guest.list);
+        while take.looking {
+            let k = row * 30 + take.at as usize;
+            let n = state.entries[k];
+            take = views::go_on(take, n);
+        }
         let u = lookup::slot_row(search.at as usize);
         let space = state.spaces[u];
         let column = lookup::row(asks.other);
         let other = state.guests[column];
         let permit = state.permits[u * 8 + column];
+        let unused = state.entries[views::free_place(row, take.at)];
         let v = View {
             place: lookup::place_of(guest, asks.caller),
             guest: guest,
@@ -143,6 +150,8 @@ fn feed_lines(
             slot: search.at,
             space: space,
             permit: permit,
+            free: take.at,
+            unused: unused,
         };
         let here = Here {
             begun: begun,

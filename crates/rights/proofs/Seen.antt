@@ -1,42 +1,48 @@
 -- What PERMIT, QUERY and REMOVE decide on what they have seen is what the model says. Assumes nothing.
 use Prim.Native.Nat.{ℕ, _+_, _-_, _*_, _%_, _≤_, _<_}
 use mathlib.Core.Bool.{Bool, true, false, not}
+use mathlib.Core.Logic.{⊎-elim}
 use mathlib.Core.Path.{_≡_, refl, sym, ap, ap₂, subst, _∙_}
 use native.Mathlib.Omega.{arith}
 use lib.Dec.{leb, ltb, eqb}
 use lib.ListN.{getD}
 use borrow.Author.Tests.{ltb-true, le-ltb, lt-ltb, eq-eqb, ne-eqb}
 use Rattle.lists.specs.Choice.{both, either}
-use Rattle.lists.proofs.Choice.{choose-elim, both-no, both-not, both-intro, either-left, either-right, either-none, not-of}
+use Rattle.lists.proofs.Choice.{both-intro, both-left, both-no, both-not, choose-elim, either-left, either-none, either-right, not-of, true-or-false}
 use Rattle.lists.proofs.Rules.{not-yes, not-no, test-no, test-yes}
 use Rattle.model.specs.declared.Answer.{Answer}
-use Rattle.model.specs.declared.Answer.the-variants.{Done, BadCaller, Limit, NoSpace, NoSharing, AletSpecification, AlenTranslation}
+use Rattle.model.specs.declared.Answer.the-variants.{Done, BadCaller, Limit, NoSpace, NoSharing, NotPermitted, ListFull, AletSpecification, AlenTranslation}
 use Rattle.model.specs.declared.Caller.{Caller}
 use Rattle.model.specs.declared.Change.the-variants.{SetPermit, SetEntry}
 use Rattle.model.specs.declared.Entry.{Entry}
 use Rattle.model.specs.declared.Grant.{Grant}
 use Rattle.model.specs.declared.Guest.{Guest}
 use Rattle.model.specs.declared.Kind.the-variants.{OtherGuest, Name}
-use Rattle.model.specs.declared.Operation.the-variants.{Permit, Query, Remove}
+use Rattle.model.specs.declared.Operation.{Operation}
+use Rattle.model.specs.declared.Operation.the-variants.{Permit, Query, Add, Remove}
 use Rattle.model.specs.declared.Permit.{Permit as PermitRow}
 use Rattle.model.specs.declared.Right.{Right}
 use Rattle.model.specs.declared.Right.the-variants.{Read}
 use Rattle.model.specs.declared.Space.{Space}
+use Rattle.model.specs.declared.Standing.the-variants.{Valid}
 use Rattle.model.specs.declared.State.{State}
 use Rattle.model.specs.Arguments.{goodOther, arguments, checkAll}
-use Rattle.model.specs.Calls.{judge, enrols, perform, permit, query, remove, entitled}
+use Rattle.model.specs.Calls.{judge, enrols, perform, permit, query, add, remove, entitled}
 use Rattle.model.specs.Changes.{allows, raised, released}
 use Rattle.model.specs.Names.{goodName}
 use Rattle.model.specs.Replies.{callOf}
-use Rattle.model.specs.Searches.{enrolled, slotOf, slotNamed}
-use Rattle.model.specs.Tables.{noPermit, unusedEntry, spaceAt, guestAt, guestPlace, grantAt, entryAt}
+use Rattle.model.specs.Searches.{enrolled, slotOf, slotNamed, freeEntry}
+use Rattle.model.specs.SoundTest.{sound}
+use Rattle.model.specs.Tables.{noPermit, unusedEntry, spaceAt, guestAt, guestPlace, grantAt, entryAt, entryPlace}
 use Rattle.model.specs.Tokens.{malformed, assigned, entryNumber}
 use Rattle.model.proofs.Rules.{check-yes, check-no, place-no, place-yes, place-is}
+use Rattle.model.proofs.SoundTest.{sound-decides}
 use Rattle.model.proofs.Tokens.{formed}
 use Rattle.entries.specs.Assigned.{assignedTo}
 use Rattle.lookup.specs.declared.Owned.{Owned}
 use Rattle.lookup.specs.declared.Owned.the-variants.{At, Refused}
 use Rattle.lookup.specs.Owned.{ownedAt, ownedSpace}
+use Rattle.lookup.specs.Rows.{rowOf}
 use Rattle.lookup.proofs.Owning.{owned-row, owned-slot, owned-low, owning-passes, owning-stops}
 use Rattle.lookup.proofs.Rows.{enrolled-row}
 use Rattle.edits.specs.declared.Edit.the-variants.{Nothing, Permit as PermitEdit, Entry as EntryEdit}
@@ -48,8 +54,26 @@ use Rattle.translation.proofs.Translated.{named-place}
 use Rattle.views.specs.declared.View.{View}
 use Rattle.views.specs.Asks.{asksBy, tokenBy}
 use Rattle.views.specs.Views.{viewOf}
-use Rattle.views.proofs.Judged.{judged-bad, judged-good, place-own, row-own, seen-caller, seen-guest}
+use Rattle.views.proofs.Judged.{asks-caller, judged-bad, judged-good, place-own, row-own, seen-caller, seen-enrolled, seen-guest}
 use Rattle.views.proofs.Looked.{space-row, space-slot, permit-slot, permit-finds, query-finds, permit-other}
+use Rattle.views.proofs.Added.{add-finds, add-free, add-unused}
+
+-- whether a call may have the space that it has seen, where the permit is its caller's
+entitled-seen : (s : State) (g : ℕ) (o : Operation) (v : View) (e : v ≡ viewOf s (asksBy g o)) → asksBy g o .other ≡ g → v .place < 8 → v .slot < 32 → (r : Right)
+    → either (eqb (v .space .owner) (v .place + 1)) (allows (v .permit .grant) r) ≡ entitled s g (v .slot) r
+unfolding entitled
+entitled-seen s g o v e own l low r =
+    let a = asksBy g o in
+    ap₂ (λ (u : Space) (w : PermitRow). either (eqb (u .owner) (v .place + 1)) (allows (w .grant) r)) (space-slot s a v e low) (permit-slot s a v e low)
+    ∙ ap₂ (λ h j. either (eqb (spaceAt (s .spaces) (v .slot) .owner) h) (allows (getD (s .permits) (v .slot * 8 + j) noPermit .grant) r))
+    (seen-caller s g o v e l) (ap rowOf (own ∙ sym (asks-caller g o)) ∙ row-own s g o v e l)
+
+-- a number below another is below what is no less
+below-both : (k n m : ℕ) → n ≤ m → both (ltb k m) (ltb k n) ≡ ltb k n
+below-both k n m h = ⊎-elim yes-below (λ f. both-not (ltb k m) _ f ∙ sym f) (true-or-false (ltb k n))
+  where
+    yes-below : ltb k n ≡ true → both (ltb k m) (ltb k n) ≡ ltb k n
+    yes-below t = let l = ltb-true k n t in both-intro _ _ (lt-ltb k m (omega arith)) t ∙ sym t
 
 -- PERMIT
 module _ (v : View) (i h : ℕ) (r : Right) (x : Edited) where
@@ -162,14 +186,11 @@ module _ (v : View) (o n : ℕ) (x : Edited) where
 
         module _ (low : v .slot < 32) (t : Bool) (ts : t ≡ either (eqb (v .space .owner) (v .place + 1)) (allows (v .permit .grant) Read)) where
           entitled-is : (s : State) (c : Caller) → v ≡ viewOf s (asksBy (c .guest) (Query o n)) → t ≡ entitled s (c .guest) (slotNamed (s .spaces) o n) Read
-          unfolding entitled asksBy
+          unfolding asksBy
           entitled-is s c e =
-              let k = asksBy (c .guest) (Query o n) in
               ts
-              ∙ ap₂ (λ (u : Space) (w : PermitRow). either (eqb (u .owner) (v .place + 1)) (allows (w .grant) Read)) (space-slot s k v e low) (permit-slot s k v e low)
-              ∙ ap₂ (λ g j. either (eqb (spaceAt (s .spaces) (v .slot) .owner) g) (allows (getD (s .permits) (v .slot * 8 + j) noPermit .grant) Read))
-              (seen-caller s (c .guest) (Query o n) v e l) (row-own s (c .guest) (Query o n) v e l)
-              ∙ ap (λ u. either (eqb (spaceAt (s .spaces) u .owner) (c .guest)) (allows (grantAt (s .permits) u (c .guest)) Read)) (query-finds s (c .guest) o n v e)
+              ∙ entitled-seen s (c .guest) (Query o n) v e refl l low Read
+              ∙ ap (λ u. entitled s (c .guest) u Read) (query-finds s (c .guest) o n v e)
 
           pub query-not : not t ≡ true → x ≡ record { answer = NoSpace; edit = Nothing } → Decided v (Query o n) x
           unfolding query
@@ -185,6 +206,83 @@ module _ (v : View) (o n : ℕ) (x : Edited) where
                 answer = ap (λ (u : Space). Done (u .id)) (space-slot s (asksBy (c .guest) (Query o n)) v e low)
                     ∙ ap (λ k. Done (spaceAt (s .spaces) k .id)) (query-finds s (c .guest) o n v e);
                 change = refl;
+              }))
+
+-- ADD
+module _ (v : View) (i : ℕ) (r : Right) (x : Edited) where
+  pub add-bad : 8 ≤ v .place → x ≡ record { answer = BadCaller; edit = Nothing } → Decided v (Add i r) x
+  unfolding enrols
+  add-bad g p = decided-refused v (Add i r) x _ p (λ s c ok e. judged-bad s c (Add i r) 0 v refl e g)
+
+  module _ (l : v .place < 8) where
+    judged-add : (s : State) (c : Caller) → v ≡ viewOf s (asksBy (c .guest) (Add i r)) → judge s (callOf c (Add i r)) 0 ≡ add s (c .guest) i r
+    unfolding enrols arguments checkAll perform
+    judged-add s c e = judged-good s c (Add i r) 0 v refl e l
+
+    pub add-none : 32 ≤ v .slot → x ≡ record { answer = NoSpace; edit = Nothing } → Decided v (Add i r) x
+    unfolding add
+    add-none q p =
+        decided-refused v (Add i r) x _ p (λ s c ok e. judged-add s c e ∙ check-no _ _ (rw (← add-finds s (c .guest) i r v e) (le-ltb (v .slot) 32 q)))
+
+    module _ (low : v .slot < 32) (t : Bool) (ts : t ≡ either (eqb (v .space .owner) (v .place + 1)) (allows (v .permit .grant) r)) where
+      slot-found : (s : State) (c : Caller) → v ≡ viewOf s (asksBy (c .guest) (Add i r)) → ltb (slotOf (s .spaces) i) 32 ≡ true
+      slot-found s c e = rw (← add-finds s (c .guest) i r v e) (lt-ltb (v .slot) 32 low)
+
+      may-add : (s : State) (c : Caller) → v ≡ viewOf s (asksBy (c .guest) (Add i r)) → t ≡ entitled s (c .guest) (slotOf (s .spaces) i) r
+      unfolding asksBy
+      may-add s c e =
+          ts
+          ∙ entitled-seen s (c .guest) (Add i r) v e refl l low r
+          ∙ ap (λ u. entitled s (c .guest) u r) (add-finds s (c .guest) i r v e)
+
+      pub add-not : not t ≡ true → x ≡ record { answer = NotPermitted; edit = Nothing } → Decided v (Add i r) x
+      unfolding add
+      add-not q p =
+          decided-refused v (Add i r) x _ p (λ s c ok e. judged-add s c e ∙ check-yes _ _ (slot-found s c e) ∙ check-no _ _ (test-no t _ (may-add s c e) q))
+
+      module _ (y : not t ≡ false) (b : Bool) (bs : b ≡ both (ltb (v .free) 30) (ltb (v .free) (v .guest .list))) where
+        -- in a sound state every entry of the list stands in the table
+        room-is : (s : State) (c : Caller) → sound s ≡ true → v ≡ viewOf s (asksBy (c .guest) (Add i r))
+            → b ≡ ltb (freeEntry (s .entries) (c .guest) (guestAt (s .guests) (c .guest) .list)) (guestAt (s .guests) (c .guest) .list)
+        room-is s c ok e =
+            let n = guestAt (s .guests) (c .guest) .list in
+            bs
+            ∙ ap₂ (λ k (g : Guest). both (ltb k 30) (ltb k (g .list))) (add-free s (c .guest) i r v e l ok) (seen-guest s (c .guest) (Add i r) v e l)
+            ∙ below-both (freeEntry (s .entries) (c .guest) n) n 30 (sound-decides s .to ok .guests .list-high (c .guest) (seen-enrolled s (c .guest) (Add i r) v e l))
+
+        pub add-full : not b ≡ true → x ≡ record { answer = ListFull; edit = Nothing } → Decided v (Add i r) x
+        unfolding add
+        add-full q p =
+            decided-refused v (Add i r) x _ p
+            (λ s c ok e. judged-add s c e ∙ check-yes _ _ (slot-found s c e) ∙ check-yes _ _ (test-yes t _ (may-add s c e) y) ∙ check-no _ _ (test-no b _ (room-is s c ok e) q))
+
+        module _ (z : not b ≡ false) where
+          free-low : v .free < 30
+          free-low = ltb-true (v .free) 30 (both-left _ _ (test-yes b _ bs z))
+
+          pub add-done : x ≡ record {
+            answer = Done (v .unused .sequence * 65536 + (v .free + 2));
+            edit = EntryEdit (v .place * 30 + v .free) (record { standing = Valid (v .slot) r; sequence = v .unused .sequence });
+          }
+              → Decided v (Add i r) x
+          unfolding add changeOf Fits
+          add-done p =
+              decided-done v (Add i r) x _ _ p (omega (arith, free-low))
+              (λ s c ok e.
+              let k = add-free s (c .guest) i r v e l ok in
+              let q : v .unused .sequence ≡ entryAt (s .entries) (c .guest) (freeEntry (s .entries) (c .guest) (guestAt (s .guests) (c .guest) .list) + 2) .sequence =
+              ap (λ (n : Entry). n .sequence) (add-unused s (c .guest) i r v e l ok free-low) in
+              let place : v .place * 30 + v .free ≡ entryPlace (c .guest) (freeEntry (s .entries) (c .guest) (guestAt (s .guests) (c .guest) .list) + 2) =
+              omega (arith, k, place-own s (c .guest) (Add i r) v e l) in
+              rw
+              (judged-add s c e
+              ∙ check-yes _ _ (slot-found s c e)
+              ∙ check-yes _ _ (test-yes t _ (may-add s c e) y)
+              ∙ check-yes _ _ (test-yes b _ (room-is s c ok e) z))
+              (record {
+                answer = ap₂ (λ a n. Done (a * 65536 + (n + 2))) q k;
+                change = ap₂ (λ a (n : Entry). SetEntry a n) place
+                    (ap₂ (λ u a. record { standing = Valid u r; sequence = a }) (add-finds s (c .guest) i r v e) q);
               }))
 
 -- REMOVE
@@ -263,5 +361,11 @@ module _ (u k g : ℕ) (x : Space) (o : Owned) (is : o ≡ ownedAt k x g) (e : o
   pub permit-byte : (to : ℕ) → to < 8 → u * 8 + to < 256
   permit-byte to l = omega (arith, low)
 
+pub number-low : (t : ℕ) (b : Bool) → (t ≡ 0 → ⊥) → b ≡ malformed t → b ≡ false → 2 ≤ t % 65536
+number-low t b z e n = formed t z (sym e ∙ n) .entry .low
+
 pub entry-byte : (at t : ℕ) (b : Bool) → at < 8 → (t ≡ 0 → ⊥) → b ≡ malformed t → b ≡ false → at * 30 + (t % 65536 - 2) < 256
 entry-byte at t b l z e n = let f = formed t z (sym e ∙ n) .entry in omega arith
+
+pub free-byte : (at k n : ℕ) (b : Bool) → at < 8 → b ≡ both (ltb k 30) (ltb k n) → not b ≡ false → at * 30 + k < 256
+free-byte at k n b l e z = let low = ltb-true k 30 (both-left _ _ (test-yes b _ e z)) in omega arith

@@ -1,16 +1,14 @@
-// PERMIT, QUERY, ADD and REMOVE. All but ADD are decided on what they have seen of the tables, of any state that it was seen in;
-// and each of a sound state that is handed over.
-ghost use Prim.Native.Nat.{_<_};
+// PERMIT, QUERY, ADD and REMOVE. Each is decided on what it has seen of the tables, of any state that it was seen in; and of a
+// sound state that is handed over.
 ghost use mathlib.Core.Bool.{true};
 ghost use mathlib.Core.Path.{_≡_};
-ghost use lib.Dec.{leb};
+ghost use lib.Dec.{leb, ltb};
 ghost use Rattle.lists.specs.Choice.{both};
 ghost use Rattle.model.specs.Calls.{judge};
-ghost use Rattle.model.specs.Replies.{reply, replied, callOf};
+ghost use Rattle.model.specs.Replies.{replied, callOf};
 ghost use Rattle.model.specs.SoundTest.{sound};
 ghost use Rattle.model.specs.declared.Operation.the-variants.{Permit as PermitCall, Query, Add, Remove};
 ghost use Rattle.edits.specs.Edits.{Decided};
-ghost use Rattle.rights.specs.Leaves.{entered};
 use edits::Edit;
 use edits::Edited;
 use lookup::Owned;
@@ -26,16 +24,6 @@ use model::Right;
 use model::Standing;
 use model::State;
 use views::View;
-
-// A call that is refused changes nothing.
-fn refuse(s: State, a: Answer) -> Reply
-    ensures { λ r. ⌜ r ≡ reply a s ⌝ }
-{
-    Reply {
-        answer: a,
-        state: s,
-    }
-}
 
 // The right becomes the greater of old and new.
 pub fn decide_permit(v: View, id: u32, guest: u32, right: Right) -> Edited
@@ -139,56 +127,62 @@ pub fn query(s: State, caller: Caller, owner: u32, name: u64) -> Answer
     told.answer
 }
 
-// Entry k of the list at a guest's place, counted from 0, stands for a space. The value is its token; entries are numbered
-// from 2.
-fn enter(mut s: State, place: usize, k: usize, slot: usize, right: Right) -> Reply
-    requires { ⌜ (place < 8) × ((k < 30) × (slot < 32)) ⌝ }
-    ensures { λ r. ⌜ r ≡ entered s place k slot right ⌝ }
+// The lowest unused entry of the list stands for the space. The value is its token; entries are numbered from 2.
+pub fn decide_add(v: View, id: u32, right: Right) -> Edited
+    ensures { λ r. ⌜ Decided v (Add id right) r ⌝ }
 {
-    let e = s.entries[place * 30 + k];
-    s.entries[place * 30 + k] = Entry {
-        standing: Standing::Valid {
-            slot: slot as u8,
-            right,
-        },
-        sequence: e.sequence,
-    };
-    Reply {
+    let at = v.place;
+    if 8 <= at {
+        return edits::refused(Answer::BadCaller);
+    }
+    if 32 <= v.slot {
+        return edits::refused(Answer::NoSpace);
+    }
+    let x = v.space;
+    let p = v.permit;
+    if !permits::is_entitled(x, p, at as u32 + 1, right) {
+        return edits::refused(Answer::NotPermitted);
+    }
+    let g = v.guest;
+    if !has_room(v.free, g.list) {
+        return edits::refused(Answer::ListFull);
+    }
+    let e = v.unused;
+    let place = at * 30 + v.free as usize;
+    Edited {
         answer: Answer::Done {
-            value: e.sequence as u32 * 65536 + (k as u32 + 2),
+            value: e.sequence as u32 * 65536 + (v.free as u32 + 2),
         },
-        state: s,
+        edit: Edit::Entry {
+            place: place as u8,
+            entry: Entry {
+                standing: Standing::Valid {
+                    slot: v.slot,
+                    right,
+                },
+                sequence: e.sequence,
+            },
+        },
     }
 }
 
-// The lowest unused entry of the list stands for the space.
+// Whether the entry that a search came to is one of the list; no list has more than 30.
+fn has_room(free: u8, list: u8) -> bool
+    ensures { λ r. ⌜ r ≡ both (ltb free 30) (ltb free list) ⌝ }
+{
+    if free < 30 {
+        return free < list;
+    }
+    false
+}
+
 pub fn add(s: State, caller: Caller, id: u32, right: Right) -> Reply
     requires { ⌜ sound s ≡ true ⌝ }
     ensures { λ r. ⌜ r ≡ replied s (judge s (callOf caller (Add id right)) 0) ⌝ }
 {
-    let gs = s.guests;
-    let at = lookup::caller_place(gs, caller.guest);
-    if 8 <= at {
-        return refuse(s, Answer::BadCaller);
-    }
-    let ss = s.spaces;
-    let u = lookup::find_space(ss, id);
-    if 32 <= u {
-        return refuse(s, Answer::NoSpace);
-    }
-    let x = ss[u];
-    let p = s.permits[u * 8 + at];
-    if !permits::is_entitled(x, p, caller.guest, right) {
-        return refuse(s, Answer::NotPermitted);
-    }
-    let g = gs[at];
-    let list = g.list as usize;
-    let es = s.entries;
-    let k = lookup::free_entry(es, at, list);
-    if list <= k {
-        return refuse(s, Answer::ListFull);
-    }
-    enter(s, at, k, u, right)
+    let operation = Operation::Add { id, right };
+    let v = views::seen_in(s, views::asked_by(Call { caller, operation }));
+    edits::carried(s, decide_add(v, id, right))
 }
 
 // Valid or revoked, the entry becomes unused.

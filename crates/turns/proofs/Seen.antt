@@ -10,7 +10,7 @@ use Rattle.model.specs.declared.Answer.{Answer}
 use Rattle.model.specs.declared.Answer.the-variants.{Unsound, LineNotRead}
 use Rattle.model.specs.declared.Call.{Call}
 use Rattle.model.specs.declared.Operation.{Operation}
-use Rattle.model.specs.declared.Operation.the-variants.{Permit, Query, Remove, Load, Mode, Fetch, Store}
+use Rattle.model.specs.declared.Operation.the-variants.{Permit, Query, Add, Remove, Load, Mode, Fetch, Store}
 use Rattle.model.specs.declared.Request.{Request}
 use Rattle.model.specs.declared.Request.the-variants.{Call as Asked, NotRead}
 use Rattle.model.specs.declared.Right.{Right}
@@ -128,6 +128,10 @@ module _ (x : Here) (v : View) (q : Request) (k : Call) (size : ℕ) (b m out ou
   pub query-told : (owner name : ℕ) → k .operation ≡ Query owner name → Decided v (Query owner name) e → AnsweredTo x v q (dataIn q b) m out r m out'
   unfolding bufferFor stores
   query-told owner name is = by (Query owner name) is tt tt tt refl (unstoring q b (rw (g, is) refl))
+
+  pub add-told : (id : ℕ) (right : Right) → k .operation ≡ Add id right → Decided v (Add id right) e → AnsweredTo x v q (dataIn q b) m out r m out'
+  unfolding bufferFor stores
+  add-told id right is = by (Add id right) is tt tt tt refl (unstoring q b (rw (g, is) refl))
 
   pub remove-told : (token : ℕ) → k .operation ≡ Remove token → Decided v (Remove token) e → AnsweredTo x v q (dataIn q b) m out r m out'
   unfolding bufferFor stores

@@ -29,7 +29,7 @@ use Rattle.turns.proofs.Filled.{unstoring}
 
 -- the calls that ask for whole tables, by their places in the enum
 abbrev changing : List ℕ
-changing = 0 ∷ 1 ∷ 2 ∷ 4 ∷ 6 ∷ 12 ∷ []
+changing = 0 ∷ 1 ∷ 2 ∷ 4 ∷ 12 ∷ []
 
 -- they move no bytes
 bare : (o : Operation) (size : ℕ) → OneOf changing (tagOf operation-cases.the-type o) → (isStore o ≡ false) × (bufferFor o size [] ≡ [])

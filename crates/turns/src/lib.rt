@@ -146,6 +146,9 @@ fn answer_call(
         Operation::Query { owner, name } => {
             tell_edit(here, request, rights::decide_query(v, owner, name), out)
         }
+        Operation::Add { id, right } => {
+            tell_edit(here, request, rights::decide_add(v, id, right), out)
+        }
         Operation::Remove { token } => {
             tell_edit(here, request, rights::decide_remove(v, token), out)
         }

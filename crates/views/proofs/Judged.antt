@@ -26,7 +26,7 @@ use Rattle.views.specs.Asks.{asksBy}
 use Rattle.views.specs.Views.{viewOf}
 
 -- every call asks for its caller
-asks-caller : (g : ℕ) (o : Operation) → asksBy g o .caller ≡ g
+pub asks-caller : (g : ℕ) (o : Operation) → asksBy g o .caller ≡ g
 unfolding asksBy
 asks-caller g (Enrol x) = refl
 asks-caller g (Create name pages) = refl

@@ -3,3 +3,5 @@ pub mod Told
 pub mod Seen
 pub mod Judged
 pub mod Looked
+pub mod Lists
+pub mod Added

@@ -12,11 +12,14 @@ use Rattle.views.specs.declared.Asks.{Asks}
 use Rattle.views.specs.declared.Search.{Search}
 use Rattle.views.specs.Asks.{tokenBy}
 use Rattle.views.specs.Search.{searchFor, foundBy}
+use Rattle.views.specs.declared.Taking.{Taking}
+use Rattle.views.specs.Taking.{takingFor, takenBy, freePlace}
 use Rattle.views.specs.Views.{viewOf}
 
-pub view-read : (s : State) (a : Asks) (row t k u column place other : ℕ) (f f₀ : Search) → row ≡ rowOf (a .caller)
+pub view-read : (s : State) (a : Asks) (row t k u column place other p : ℕ) (f f₀ : Search) (n n₀ : Taking) → row ≡ rowOf (a .caller)
     → t ≡ tokenBy (a .uses) (getD (s .cpus) row noCpu) → k ≡ tokenPlace row t → f₀ ≡ searchFor a t (getD (s .entries) k unusedEntry)
-    → foundBy f (s .spaces) ≡ foundBy f₀ (s .spaces) → f .looking ≡ false → u ≡ slotRow (f .at) → column ≡ rowOf (a .other)
+    → foundBy f (s .spaces) ≡ foundBy f₀ (s .spaces) → f .looking ≡ false → n₀ ≡ takingFor (a .takes) (getD (s .guests) row noGuest .list)
+    → takenBy n (s .entries) row ≡ takenBy n₀ (s .entries) row → n .looking ≡ false → u ≡ slotRow (f .at) → column ≡ rowOf (a .other) → p ≡ freePlace row (n .at)
     → place ≡ placeBy (getD (s .guests) row noGuest) (a .caller) → other ≡ placeBy (getD (s .guests) column noGuest) (a .other)
     → record {
       place = place;
@@ -27,9 +30,12 @@ pub view-read : (s : State) (a : Asks) (row t k u column place other : ℕ) (f f
       slot = f .at;
       space = getD (s .spaces) u noSpace;
       permit = getD (s .permits) (u * 8 + column) noPermit;
+      free = n .at;
+      unused = getD (s .entries) p unusedEntry;
     }
     ≡ viewOf s a
-unfolding viewOf foundBy
-view-read s a row t k u column place other f f₀ r1 t1 k1 f1 same over u1 c1 p1 o1 =
+unfolding viewOf foundBy takenBy
+view-read s a row t k u column place other p f f₀ n n₀ r1 t1 k1 f1 same over n1 taken ended u1 c1 q1 p1 o1 =
     let slot : f .at ≡ foundBy f₀ (s .spaces) = sym (no! _ _ over) ∙ same in
-    rw (p1, o1, u1, slot, f1, k1, t1, c1, r1) refl
+    let free : n .at ≡ takenBy n₀ (s .entries) row = sym (no! _ _ ended) ∙ taken in
+    rw (p1, o1, q1, u1, free, slot, n1, f1, k1, t1, c1, r1) refl

@@ -1,11 +1,12 @@
 -- What the code has found a call, a token and an entry to be. Assumes nothing.
 use Prim.Native.Nat.{ℕ, _≤_, _<_}
+use mathlib.Core.Bool.{true, false}
 use mathlib.Core.Path.{_≡_, refl, sym, ap, _∙_}
 use borrow.Author.Tests.{le-leb, lt-leb, ne-eqb, eq-eqb}
 use Rattle.lists.proofs.Choice.{yes!, no! }
 use Rattle.model.specs.declared.Call.{Call}
 use Rattle.model.specs.declared.Cpu.{Cpu}
-use Rattle.model.specs.declared.Operation.the-variants.{Permit, Query, Remove}
+use Rattle.model.specs.declared.Operation.the-variants.{Permit, Query, Add, Remove}
 use Rattle.model.specs.declared.Right.{Right}
 use Rattle.model.specs.declared.Standing.{Standing}
 use Rattle.model.specs.Names.{baseName}
@@ -22,15 +23,19 @@ module _ (k : Call) where
   abbrev asked : Asks
   asked = asksBy (k .caller .guest) (k .operation)
 
-  pub asks-permit : (i g : ℕ) (r : Right) → k .operation ≡ Permit i g r → record { caller = k .caller .guest; other = g; uses = Token 0; sought = Id i } ≡ asked
+  pub asks-permit : (i g : ℕ) (r : Right) → k .operation ≡ Permit i g r → record { caller = k .caller .guest; other = g; uses = Token 0; sought = Id i; takes = false } ≡ asked
   unfolding asksBy
   asks-permit i g r e = rw e refl
 
-  pub asks-query : (o n : ℕ) → k .operation ≡ Query o n → record { caller = k .caller .guest; other = k .caller .guest; uses = Token 0; sought = Named o n } ≡ asked
+  pub asks-query : (o n : ℕ) → k .operation ≡ Query o n → record { caller = k .caller .guest; other = k .caller .guest; uses = Token 0; sought = Named o n; takes = false } ≡ asked
   unfolding asksBy
   asks-query o n e = rw e refl
 
-  pub asks-remove : (t : ℕ) → k .operation ≡ Remove t → record { caller = k .caller .guest; other = k .caller .guest; uses = Token t; sought = Nothing } ≡ asked
+  pub asks-add : (i : ℕ) (r : Right) → k .operation ≡ Add i r → record { caller = k .caller .guest; other = k .caller .guest; uses = Token 0; sought = Id i; takes = true } ≡ asked
+  unfolding asksBy
+  asks-add i r e = rw e refl
+
+  pub asks-remove : (t : ℕ) → k .operation ≡ Remove t → record { caller = k .caller .guest; other = k .caller .guest; uses = Token t; sought = Nothing; takes = false } ≡ asked
   unfolding asksBy
   asks-remove t e = rw e refl
 

@@ -1,5 +1,6 @@
 -- What a call asks to see, and the token that it uses.
 use Prim.Native.Nat.{ℕ}
+use mathlib.Core.Bool.{true, false}
 use lib.Dec.{leb}
 use Rattle.lists.specs.Choice.{choose}
 use Rattle.model.specs.declared.Cpu.{Cpu}
@@ -15,7 +16,7 @@ use Rattle.views.specs.declared.Uses.{Uses}
 use Rattle.views.specs.declared.Uses.the-variants.{Token, Register}
 
 abbrev asking : (caller other : ℕ) → Uses → Sought → Asks
-asking c o u x = record { caller = c; other = o; uses = u; sought = x }
+asking c o u x = record { caller = c; other = o; uses = u; sought = x; takes = false }
 
 -- its caller alone
 abbrev pub plainly : (caller : ℕ) → Asks
@@ -28,7 +29,7 @@ asksBy c (Destroy id) = plainly c
 asksBy c (Permit id guest right) = asking c guest (Token 0) (Id id)
 asksBy c (Isolate id) = plainly c
 asksBy c (Query owner name) = asking c c (Token 0) (Named owner name)
-asksBy c (Add id right) = plainly c
+asksBy c (Add id right) = record { caller = c; other = c; uses = Token 0; sought = Id id; takes = true }
 asksBy c (Remove token) = asking c c (Token token) Nothing
 asksBy c (Load register value) = plainly c
 asksBy c (Mode mode) = plainly c

@@ -1,4 +1,5 @@
--- What a call asks to see, the search for its space, and what it sees.
+-- What a call asks to see, the searches for its space and for an entry, and what it sees.
 pub mod Asks
 pub mod Search
+pub mod Taking
 pub mod Views

@@ -11,6 +11,7 @@ use Rattle.views.specs.declared.Asks.{Asks}
 use Rattle.views.specs.declared.View.{View}
 use Rattle.views.specs.Asks.{tokenBy}
 use Rattle.views.specs.Search.{searchFor, foundBy}
+use Rattle.views.specs.Taking.{takingFor, takenBy, freePlace}
 
 abbrev pub rowAt : State → (guest : ℕ) → Guest
 rowAt s g = getD (s .guests) (rowOf g) noGuest
@@ -25,6 +26,9 @@ entrySeen s a = getD (s .entries) (tokenPlace (rowOf (a .caller)) (tokenSeen s a
 abbrev pub slotSeen : State → Asks → ℕ
 slotSeen s a = foundBy (searchFor a (tokenSeen s a) (entrySeen s a)) (s .spaces)
 
+abbrev pub freeSeen : State → Asks → ℕ
+freeSeen s a = takenBy (takingFor (a .takes) (rowAt s (a .caller) .list)) (s .entries) (rowOf (a .caller))
+
 unfoldable pub viewOf : State → Asks → View
 viewOf s a = record {
   place = placeBy (rowAt s (a .caller)) (a .caller);
@@ -35,4 +39,6 @@ viewOf s a = record {
   slot = slotSeen s a;
   space = spaceAt (s .spaces) (slotRow (slotSeen s a));
   permit = getD (s .permits) (slotRow (slotSeen s a) * 8 + rowOf (a .other)) noPermit;
+  free = freeSeen s a;
+  unused = getD (s .entries) (freePlace (rowOf (a .caller)) (freeSeen s a)) unusedEntry;
 }

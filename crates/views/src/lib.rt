@@ -7,6 +7,7 @@ ghost use Rattle.views.specs.declared.Sought.the-variants.{Nothing};
 ghost use Rattle.views.specs.declared.Uses.the-variants.{Register};
 ghost use Rattle.views.specs.Asks.{asksBy, asksFor, plainly, tokenBy};
 ghost use Rattle.views.specs.Search.{soughtBy, searchBy, searchThrough, searchFor, Advanced};
+ghost use Rattle.views.specs.Taking.{takingFor, WithinList, WentOn, freePlace};
 ghost use Rattle.views.specs.Views.{viewOf};
 use model::BASE;
 use model::Call;
@@ -33,12 +34,13 @@ pub enum Sought {
     Named { owner: u32, name: u64 },
 }
 
-// What a call asks to see. `other` is the guest whose permit it looks at.
+// What a call asks to see. `other` is the guest whose permit it looks at; `takes` tells whether it takes an entry of its list.
 pub struct Asks {
     pub caller: u32,
     pub other: u32,
     pub uses: Uses,
     pub sought: Sought,
+    pub takes: bool,
 }
 
 // A search through the slots. While it is looking it comes to slot `at` next; then `at` is what it found, 32 for nothing.
@@ -48,8 +50,16 @@ pub struct Search {
     pub looking: bool,
 }
 
+// A search through the first `end` entries of a list, in the same way. It ends at `end` where none may be taken.
+pub struct Taking {
+    pub at: u8,
+    pub end: u8,
+    pub looking: bool,
+}
+
 // What it sees: the places of the caller and of the other guest, 8 for one that is not enrolled; what stands in the caller's
-// row; the token, and the entry that it names; the slot of the space, what stands there, and the other guest's permit for it.
+// row; the token, and the entry that it names; the slot of the space, what stands there, and the other guest's permit for it;
+// the entry that may be taken, counted from 0, and what stands there.
 pub struct View {
     pub place: usize,
     pub guest: Guest,
@@ -59,6 +69,8 @@ pub struct View {
     pub slot: u8,
     pub space: Space,
     pub permit: Permit,
+    pub free: u8,
+    pub unused: Entry,
 }
 
 // A call that asks for its caller alone.
@@ -70,18 +82,20 @@ fn plain(caller: u32) -> Asks
         other: caller,
         uses: Uses::Token { token: 0 },
         sought: Sought::Nothing,
+        takes: false,
     }
 }
 
 // FETCH and STORE.
 fn through(caller: u32, register: u32) -> Asks
-    ensures { λ r. ⌜ r ≡ record { caller = caller; other = caller; uses = Register register; sought = Nothing } ⌝ }
+    ensures { λ r. ⌜ r ≡ record { caller = caller; other = caller; uses = Register register; sought = Nothing; takes = false } ⌝ }
 {
     Asks {
         caller: caller,
         other: caller,
         uses: Uses::Register { register: register },
         sought: Sought::Nothing,
+        takes: false,
     }
 }
 
@@ -104,6 +118,7 @@ pub fn asked_by(call: Call) -> Asks
             other: guest,
             uses: Uses::Token { token: 0 },
             sought: Sought::Id { id: id },
+            takes: false,
         },
         Operation::Isolate { id: _ } => plain(g),
         Operation::Query { owner, name } => Asks {
@@ -114,13 +129,21 @@ pub fn asked_by(call: Call) -> Asks
                 owner: owner,
                 name: name,
             },
+            takes: false,
         },
-        Operation::Add { id: _, right: _ } => plain(g),
+        Operation::Add { id, right: _ } => Asks {
+            caller: g,
+            other: g,
+            uses: Uses::Token { token: 0 },
+            sought: Sought::Id { id: id },
+            takes: true,
+        },
         Operation::Remove { token } => Asks {
             caller: g,
             other: g,
             uses: Uses::Token { token: token },
             sought: Sought::Nothing,
+            takes: false,
         },
         Operation::Load {
             register: _,
@@ -256,6 +279,61 @@ pub fn advance(f: Search, x: Space) -> Search
     }
 }
 
+// Where the search for an entry begins, in a list of a length; no list has more than 30 entries.
+pub fn take_from(takes: bool, list: u8) -> Taking
+    ensures { λ r. ⌜ (r ≡ takingFor takes list) × WithinList r ⌝ }
+{
+    if !takes {
+        return Taking {
+            at: 0,
+            end: 0,
+            looking: false,
+        };
+    }
+    if 30 < list {
+        return Taking {
+            at: 0,
+            end: 30,
+            looking: true,
+        };
+    }
+    Taking {
+        at: 0,
+        end: list,
+        looking: 0 < list,
+    }
+}
+
+// One entry more, by what stands there.
+pub fn go_on(f: Taking, e: Entry) -> Taking
+    requires { ⌜ (f .looking ≡ true) × WithinList f ⌝ }
+    ensures { λ r. ⌜ WentOn f e r ⌝ }
+{
+    if entries::may_take(e) {
+        return Taking {
+            at: f.at,
+            end: f.end,
+            looking: false,
+        };
+    }
+    Taking {
+        at: f.at + 1,
+        end: f.end,
+        looking: f.at + 1 < f.end,
+    }
+}
+
+// Where the entry that a search came to stands, for the guest at a row.
+pub fn free_place(row: usize, free: u8) -> usize
+    requires { ⌜ row < 8 ⌝ }
+    ensures { λ r. ⌜ (r ≡ freePlace row free) × (r < 240) ⌝ }
+{
+    if free < 30 {
+        return row * 30 + free as usize;
+    }
+    row * 30
+}
+
 // What a call sees of a state that is handed over.
 pub fn seen_in(s: State, a: Asks) -> View
     ensures { λ r. ⌜ r ≡ viewOf s a ⌝ }
@@ -271,11 +349,18 @@ pub fn seen_in(s: State, a: Asks) -> View
         let x = s.spaces[at];
         search = advance(search, x);
     }
+    let mut take = take_from(a.takes, guest.list);
+    while take.looking {
+        let k = row * 30 + take.at as usize;
+        let e = s.entries[k];
+        take = go_on(take, e);
+    }
     let u = lookup::slot_row(search.at as usize);
     let space = s.spaces[u];
     let column = lookup::row(a.other);
     let other = s.guests[column];
     let permit = s.permits[u * 8 + column];
+    let unused = s.entries[free_place(row, take.at)];
     View {
         place: lookup::place_of(guest, a.caller),
         guest: guest,
@@ -285,5 +370,7 @@ pub fn seen_in(s: State, a: Asks) -> View
         slot: search.at,
         space: space,
         permit: permit,
+        free: take.at,
+        unused: unused,
     }
 }

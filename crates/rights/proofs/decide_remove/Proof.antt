@@ -1,6 +1,5 @@
 -- `rights::decide_remove` meets its contract. Assumes nothing.
-use Rattle.rights.proofs.Rules.{bounds}
-use Rattle.rights.proofs.Seen.{remove-bad, remove-zero, remove-malformed, remove-unassigned, remove-done, entry-byte}
+use Rattle.rights.proofs.Seen.{remove-bad, remove-zero, remove-malformed, remove-unassigned, remove-done, number-low, entry-byte}
 use borrow.Author.Needs.{needs}
 use Rattle.rights.proofs.decide_remove.Statement.{statement}
 use Rattle.rights.proofs.decide_remove.Tie as tie
@@ -18,7 +17,7 @@ returns-4 : tie.Need-returns-4
 returns-4 c = search remove-unassigned
 
 sub-place : tie.Need-sub-place
-sub-place c = search bounds
+sub-place c = search number-low
 
 cast-t18 : tie.Need-cast-t18
 cast-t18 c = search entry-byte

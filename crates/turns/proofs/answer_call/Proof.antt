@@ -1,7 +1,7 @@
 -- `turns::answer_call` meets its contract. Assumes nothing.
 use mathlib.Core.Path.{refl}
 use Rattle.turns.proofs.Filled.{part-within, part-most, known-length, fetch-given}
-use Rattle.turns.proofs.Seen.{permit-told, query-told, remove-told, load-told, mode-told, fetch-answered, store-answered}
+use Rattle.turns.proofs.Seen.{permit-told, query-told, add-told, remove-told, load-told, mode-told, fetch-answered, store-answered}
 use Rattle.turns.proofs.Waiting.{call-waits, call-bare}
 use borrow.Author.Needs.{needs}
 use Rattle.turns.proofs.answer_call.Statement.{statement}
@@ -26,27 +26,33 @@ returns-2 : tie.Need-returns-2
 returns-2 c = search query-told
 
 returns-3 : tie.Need-returns-3
-returns-3 c = search remove-told
+returns-3 c = search add-told
 
 returns-4 : tie.Need-returns-4
-returns-4 c = search load-told
+returns-4 c = search remove-told
 
 returns-5 : tie.Need-returns-5
-returns-5 c = search mode-told
+returns-5 c = search load-told
 
 returns-6 : tie.Need-returns-6
-returns-6 c = search fetch-answered
+returns-6 c = search mode-told
 
 returns-7 : tie.Need-returns-7
-returns-7 c = search store-answered
+returns-7 c = search fetch-answered
 
 returns-8 : tie.Need-returns-8
-returns-8 c = (search call-waits, search call-bare, refl, refl)
+returns-8 c = search store-answered
+
+returns-9 : tie.Need-returns-9
+returns-9 c = (search call-waits, search call-bare, refl, refl)
 
 pub answer-call-spec : {M : Type 1} → statement M
 answer-call-spec =
     tie.close
     (tie.spec
+    (λ c κs. search needs)
+    (λ c. search needs)
+    (λ c κs. search needs)
     (λ c κs. search needs)
     (λ c. search needs)
     (λ c κs. search needs)
@@ -84,11 +90,13 @@ answer-call-spec =
     (λ c. search needs)
     returns-5
     (λ c. search needs)
-    (λ c. search needs)
-    (λ c. search needs)
     returns-6
     (λ c. search needs)
     (λ c. search needs)
     (λ c. search needs)
     returns-7
-    returns-8)
+    (λ c. search needs)
+    (λ c. search needs)
+    (λ c. search needs)
+    returns-8
+    returns-9)

@@ -1,6 +1,6 @@
 -- `views::asked_by` meets its contract. Assumes nothing.
 use Rattle.views.specs.Asks.{asksBy}
-use Rattle.views.proofs.Told.{asks-permit, asks-query, asks-remove}
+use Rattle.views.proofs.Told.{asks-permit, asks-query, asks-add, asks-remove}
 use borrow.Author.Needs.{needs}
 use Rattle.views.proofs.asked_by.Statement.{statement}
 use Rattle.views.proofs.asked_by.Tie as tie
@@ -28,8 +28,7 @@ returns-6 : tie.Need-returns-6
 returns-6 c = search asks-query
 
 returns-7 : tie.Need-returns-7
-unfolding asksBy
-returns-7 c = cc
+returns-7 c = search asks-add
 
 returns-8 : tie.Need-returns-8
 returns-8 c = search asks-remove
@@ -69,7 +68,6 @@ asked-by-spec =
     (λ c κs. search needs)
     (λ c. search needs)
     (λ c. search needs)
-    (λ c κs. search needs)
     (λ c. search needs)
     (λ c. search needs)
     (λ c κs. search needs)
