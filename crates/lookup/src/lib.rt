@@ -3,11 +3,10 @@ ghost use Prim.Native.Nat.{_+_, _≤_, _<_};
 ghost use mathlib.Core.Path.{_≡_};
 ghost use Rattle.lists.specs.Choice.{choose};
 ghost use Rattle.model.specs.Leaves.{callerPlace};
-ghost use Rattle.model.specs.Searches.{slotOf, slotNamed, freeSlot, dataSpaces, freeEntry};
+ghost use Rattle.model.specs.Searches.{slotOf, slotNamed, freeSlot, dataSpaces};
 ghost use Rattle.lookup.specs.Owned.{ownedAt, ownedSpace};
 ghost use Rattle.lookup.specs.Rows.{rowOf, placeBy, slotRow};
 use model::Answer;
-use model::Entry;
 use model::Guest;
 use model::Space;
 
@@ -152,20 +151,4 @@ pub fn data_spaces(spaces: [Space; 32], owner: u32) -> u32
         n = one_more(n, slots::is_data(x, owner));
     }
     n
-}
-
-// The lowest unused entry of the list at a guest's place, counted from 0.
-pub fn free_entry(entries: [Entry; 240], place: usize, list: usize) -> usize
-    requires { ⌜ (place < 8) × (list ≤ 30) ⌝ }
-    ensures { λ r. ⌜ r ≡ freeEntry entries (place + 1) list ⌝ }
-{
-    let mut k = 0usize;
-    while k < list {
-        let e = entries[place * 30 + k];
-        if entries::may_take(e) {
-            return k;
-        }
-        k += 1;
-    }
-    k
 }
