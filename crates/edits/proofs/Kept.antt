@@ -42,11 +42,8 @@ module _ (x : Edit) (f : Fits x) where
 pub ruleset insides = (entry-inside, cpu-inside, register-inside, mode-inside)
 
 -- what the code has made by an edit that it has found to be y
-pub stored-by : (s t : State) (x y : Edit) → x ≡ y → t ≡ applied s (changeOf y) → t ≡ applied s (changeOf x)
-stored-by s t x y e p = p ∙ ap (λ z. applied s (changeOf z)) (sym e)
-
-pub reply-by : (a : Answer) (s t : State) → t ≡ s → reply a t ≡ reply a s
-reply-by a s t e = ap (reply a) e
+pub carried-by : (s t : State) (e : Edited) (y : Edit) → e .edit ≡ y → t ≡ applied s (changeOf y) → reply (e .answer) t ≡ reply (e .answer) (applied s (changeOf (e .edit)))
+carried-by s t e y q p = ap (reply (e .answer)) (p ∙ ap (λ z. applied s (changeOf z)) (sym q))
 
 -- a refusal; and the reply of a call that was decided
 module _ (v : View) (o : Operation) (x : Edited) where

@@ -45,20 +45,22 @@ pub fn done(edit: Edit) -> Edited
     }
 }
 
-// The tables after it, of a state that is handed over.
-pub fn stored(mut s: State, edit: Edit) -> State
-    requires { ⌜ Fits edit ⌝ }
-    ensures { λ r. ⌜ r ≡ applied s (changeOf edit) ⌝ }
+// The reply of the call, of a state that is handed over.
+pub fn carried(mut s: State, e: Edited) -> Reply
+    requires { ⌜ Fits (e .edit) ⌝ }
+    ensures { λ r. ⌜ r ≡ reply (e .answer) (applied s (changeOf (e .edit))) ⌝ }
 {
+    let answer = e.answer;
+    let edit = e.edit;
     match edit {
-        Edit::Nothing => s,
+        Edit::Nothing => Reply { answer, state: s },
         Edit::Permit { place, permit } => {
             s.permits[place as usize] = permit;
-            s
+            Reply { answer, state: s }
         }
         Edit::Entry { place, entry } => {
             s.entries[place as usize] = entry;
-            s
+            Reply { answer, state: s }
         }
         Edit::Register {
             cpu,
@@ -69,26 +71,14 @@ pub fn stored(mut s: State, edit: Edit) -> State
             let mut c = s.cpus[k];
             c.registers[register as usize] = value;
             s.cpus[k] = c;
-            s
+            Reply { answer, state: s }
         }
         Edit::Mode { cpu, mode } => {
             let k = cpu as usize;
             let mut c = s.cpus[k];
             c.mode = mode;
             s.cpus[k] = c;
-            s
+            Reply { answer, state: s }
         }
-    }
-}
-
-pub fn carried(s: State, e: Edited) -> Reply
-    requires { ⌜ Fits (e .edit) ⌝ }
-    ensures { λ r. ⌜ r ≡ reply (e .answer) (applied s (changeOf (e .edit))) ⌝ }
-{
-    let answer = e.answer;
-    let edit = e.edit;
-    Reply {
-        answer: answer,
-        state: stored(s, edit),
     }
 }
