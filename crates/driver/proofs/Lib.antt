@@ -2,6 +2,7 @@ pub mod Bounds
 pub mod Cut
 pub mod Ending
 pub mod Feeding
+pub mod Heard
 pub mod Held
 pub mod Pieces
 pub mod Served
@@ -9,3 +10,4 @@ pub mod Stepped
 pub mod Stopped
 pub mod Turned
 pub mod Whole
+pub mod Used

@@ -26,7 +26,7 @@ feedAt h m n k held = record { session = sessionOf h m; line = n; held = take k 
 
 -- From i on the line is completed up to its newline at e.
 module _ (f : Feed) (h : Host) (input out out₁ m held : List ℕ) (i e n n₁ have : ℕ) (g : Going f input out i (h .at) (feedAt h m n have held) out₁)
-    (c : e ≡ newlineFrom input i) (l : i ≤ e) (less : e < length input) (few : have ≤ 601) (y : n₁ ≡ (n + 1) % 2 ^ 64) where
+    (c : e ≡ newlineFrom input i) (l : i ≤ e) (less : e < length input) (few : have ≤ 601) (fits : h .at + 600 ≤ length out) (y : n₁ ≡ (n + 1) % 2 ^ 64) where
   abbrev line : List ℕ
   line = wholeLine held have (take (e - i) (drop i input))
 
@@ -34,7 +34,7 @@ module _ (f : Feed) (h : Host) (input out out₁ m held : List ℕ) (i e n n₁ 
       → Going f input out (e + 1) (h₁ .at) (record { session = sessionOf h₁ m₁; line = n₁; held = [] }) out₂
   turned h₁ m₁ out₂ t =
       let short : length (take have held) ≤ 601 = omega (arith, length-take have held) in
-      rw y (going-line f input out out₁ i e (h .at) n (sessionOf h m) (take have held) g c l short (sessionOf h₁ m₁) out₂ (h₁ .at) less (t .session) (t .reply))
+      rw y (going-line f input out out₁ i e (h .at) n (sessionOf h m) (take have held) g c l short fits (sessionOf h₁ m₁) out₂ (h₁ .at) less (t .session) (t .reply))
 
 -- the same of a request that has been answered once its edit is stored, by an edit that is found to be y
 module _ (x : Here) (s t : State) (l m m₁ out out₁ : List ℕ) (place : ℕ) (ed y : Edit)

@@ -1,10 +1,11 @@
 -- Where the driver stands in a session, and what it has done with a piece of input.
-use Prim.Native.Nat.{ℕ, _+_, _≤_, _<_}
+use Prim.Native.Nat.{ℕ, _+_, _-_, _≤_, _<_}
 use mathlib.Core.Bool.{Bool, true, false}
 use mathlib.Core.List.{List, [], _∷_}
+use mathlib.Core.Logic.{_⊎_}
 use mathlib.Core.Path.{_≡_}
 use lib.Dec.{eqb}
-use lib.ListN.{length, take}
+use lib.ListN.{length, getD, take}
 use Rattle.lists.specs.Choice.{choose}
 use Rattle.model.specs.Fresh.{emptyTables}
 use Rattle.digits.specs.Wrote.{Wrote}
@@ -23,17 +24,24 @@ feedOf s h m = record {
 abbrev pub opened : Session
 opened = record { begun = false; line = 1; have = 0; state = emptyTables 0 0 }
 
--- The first `used` bytes of the input have been taken: the driver stands where the session stands after them, and what the
--- session says to them is written.
+-- a line of the input, or what is left of one, starts at place k
+abbrev pub Starts : (input : List ℕ) → (k : ℕ) → Type 0
+Starts input k = (k ≡ 0) ⊎ (getD input (k - 1) 0 ≡ 10)
+
+-- The first `used` bytes of the input have been taken: the driver stands where the session stands after them, what the session
+-- says to them is written, and wherever a line started there was room for its reply.
 pub record Going (f : Feed) (input out : List ℕ) (used written : ℕ) (f' : Feed) (out' : List ℕ) : Type 0 where
   pub feed : f' ≡ after f (take used input)
   pub text : Wrote out 0 (said f (take used input)) out' written
   pub within : used ≤ length input
+  pub room : (k : ℕ) → k < used → Starts input k → length (said f (take k input)) + 600 ≤ length out
 
--- What became of a piece of input. Only where less than 600 bytes of room are left has the driver stopped before its end.
+-- What became of a piece of input. Only where less than 600 bytes of room are left has the driver stopped before its end, and
+-- then where a line starts. So `used` is one number (proofs/Used): the first start of a line with no room for its reply.
 pub record FedTo (f : Feed) (input out : List ℕ) (used written : ℕ) (f' : Feed) (out' : List ℕ) : Type 0 where
   pub going : Going f input out used written f' out'
   pub stopped : used < length input → length out < written + 600
+  pub at-start : used < length input → Starts input used
 
 -- after the end of the input: a line that has a byte has been answered
 unfoldable pub closing : Feed → Feed

@@ -5,7 +5,7 @@ use mathlib.Core.List.{List, [], _∷_, _++_}
 use lib.Dec.{eqb}
 use lib.ListN.{length, take}
 use Rattle.lists.specs.Choice.{choose}
-use Rattle.model.specs.Session.{Session, lineTurn, newSession, lineText, nextLine}
+use Rattle.model.specs.Session.{Session, LineOutcome, lineTurn, newSession, lineText, nextLine}
 use Rattle.moves.specs.Found.{byteFrom}
 
 -- Where a session stands between two bytes: the session, the number of the next line, and the line so far. Of a line longer
@@ -40,6 +40,11 @@ after f (b ∷ bs) = after (next f b) bs
 unfoldable pub said : Feed → List ℕ → List ℕ
 said f [] = []
 said f (b ∷ bs) = says f b ++ said (next f b) bs
+
+-- what became of the lines that end in a piece, one outcome for each: `said` is their text (proofs/Heard)
+unfoldable pub heard : Feed → List ℕ → List LineOutcome
+heard f [] = []
+heard f (b ∷ bs) = choose (eqb b 10) (lineTurn (f .session) (f .held) .outcome ∷ heard (next f b) bs) (heard (next f b) bs)
 
 -- the end of the input: a line that has a byte is answered
 unfoldable pub lastWords : Feed → List ℕ
