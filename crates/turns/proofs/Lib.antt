@@ -1,6 +1,5 @@
-pub mod Replied
-pub mod Filled
 pub mod Usable
+pub mod Filled
 pub mod Carried
-pub mod Waiting
 pub mod Seen
+pub mod Changing

@@ -1,17 +1,14 @@
 -- What becomes of a request that has what it sees of the tables.
-use Prim.Native.Nat.{ℕ}
-use mathlib.Core.Bool.{true}
+use Prim.Native.Nat.{ℕ, _≤_}
 use mathlib.Core.List.{List, []}
 use mathlib.Core.Path.{_≡_}
 use lib.ListN.{length}
 use Rattle.model.specs.declared.Request.{Request}
 use Rattle.model.specs.declared.State.{State}
 use Rattle.model.specs.Changes.{applied}
-use Rattle.model.specs.Session.{lineText, requestTurn}
+use Rattle.model.specs.Session.{requestTurn}
 use Rattle.ready.specs.Usable.{usable}
-use Rattle.digits.specs.Wrote.{Wrote}
 use Rattle.edits.specs.declared.Edit.{Edit}
-use Rattle.edits.specs.declared.Edited.{Edited}
 use Rattle.edits.specs.Edits.{changeOf, Fits}
 use Rattle.views.specs.declared.View.{View}
 use Rattle.views.specs.Asks.{asksFor}
@@ -20,7 +17,8 @@ use Rattle.turns.specs.declared.Answered.{Answered}
 use Rattle.turns.specs.declared.Answered.the-variants.{To, NotYet}
 use Rattle.turns.specs.declared.Here.{Here}
 use Rattle.turns.specs.declared.Host.{Host}
-use Rattle.turns.specs.Taken.{sessionOf, Taken, Waiting}
+use Rattle.turns.specs.declared.Outcome.{Outcome}
+use Rattle.turns.specs.Taken.{sessionOf, dataIn, Taken, Waiting}
 
 -- the tables s show what the request sees; `room` is the length of the lent scratch
 pub record Sees (s : State) (q : Request) (room : ℕ) (x : Here) (v : View) : Type 0 where
@@ -33,25 +31,27 @@ pub record Seeing (q : Request) (room : ℕ) (x : Here) (v : View) : Type 0 wher
   pub tables : State
   pub sees : Sees tables q room x v
 
--- where the host stands with its tables, and after an edit and a reply
+-- where the host stands with its tables, and after an edit
 abbrev pub hostOf : Here → State → Host
-hostOf x s = record { begun = x .begun; ready = x .ready; at = x .at; state = s }
+hostOf x s = record { begun = x .begun; ready = x .ready; state = s }
 
-abbrev pub edited : Here → State → Edit → (place : ℕ) → Host
-edited x s e p = record { begun = x .begun; ready = x .ready; at = p; state = applied s (changeOf e) }
+abbrev pub edited : Here → State → Edit → Host
+edited x s e = hostOf x (applied s (changeOf e))
 
--- a reply with no bytes in it was written, and an edit is left to be stored
-abbrev pub Told : Here → Request → Edited → (out : List ℕ) → Answered → (out' : List ℕ) → Type 0
-Told x q e out (To place edit) out' =
-    (edit ≡ e .edit) × Wrote out (x .at) (lineText (x .number) (record { request = q; answer = e .answer; moved = [] })) out' place
-Told x q e out NotYet out' = ⊥
-
--- For all tables that show what the request q with the data d sees, it has been answered once the edit is stored.
-pub record AnsweredBy (x : Here) (v : View) (q : Request) (d m out : List ℕ) (place : ℕ) (e : Edit) (m' out' : List ℕ) : Type 0 where
+-- For all tables that show what the request q sees, it has been answered once the edit is stored. `m` is scratch, `b` the
+-- buffer as the reader has filled it.
+pub record AnsweredBy (x : Here) (v : View) (q : Request) (m b : List ℕ) (o : Outcome) (e : Edit) (m' b' : List ℕ) : Type 0 where
   pub fits : Fits e
-  pub taken : (s : State) → Sees s q (length m) x v → Taken (requestTurn (sessionOf (hostOf x s) m) q d) (x .number) out (x .at) (edited x s e place) m' out'
+  pub moved : o .moved ≤ 257
+  pub taken : (s : State) → Sees s q (length m) x v → Taken (requestTurn (sessionOf (hostOf x s) m) q (dataIn q b)) o b' (edited x s e) m'
 
 -- or it has no data, and nothing has been done yet
-abbrev pub AnsweredTo : Here → View → Request → (d m out : List ℕ) → Answered → (m' out' : List ℕ) → Type 0
-AnsweredTo x v q d m out (To place e) m' out' = AnsweredBy x v q d m out place e m' out'
-AnsweredTo x v q d m out NotYet m' out' = Waiting (x .begun) (x .ready) q × (d ≡ []) × (m' ≡ m) × (out' ≡ out)
+pub record Unanswered (x : Here) (q : Request) (m b m' b' : List ℕ) : Type 0 where
+  pub waits : Waiting (x .begun) (x .ready) q
+  pub bare : dataIn q b ≡ []
+  pub scratch : m' ≡ m
+  pub buffer : b' ≡ b
+
+abbrev pub AnsweredTo : Here → View → Request → (m b : List ℕ) → Answered → (m' b' : List ℕ) → Type 0
+AnsweredTo x v q m b (To o e) m' b' = AnsweredBy x v q m b o e m' b'
+AnsweredTo x v q m b NotYet m' b' = Unanswered x q m b m' b'

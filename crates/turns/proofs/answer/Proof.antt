@@ -1,9 +1,6 @@
 -- `turns::answer` meets its contract. Assumes nothing.
-use mathlib.Core.Path.{refl}
-use Rattle.lists.proofs.Rules.{tests}
-use Rattle.turns.proofs.Filled.{prepared-known}
-use Rattle.turns.proofs.Seen.{early-told, unready-told, unread-told, seeing-known}
-use Rattle.turns.proofs.Waiting.{frames-wait, frames-bare, known-answered}
+use Rattle.turns.proofs.Filled.{part-within}
+use Rattle.turns.proofs.Seen.{seeing-room, seeing-run, unread-told, early-told, unready-told, made-answered, call-waits, frames-wait}
 use borrow.Author.Needs.{needs}
 use Rattle.turns.proofs.answer.Statement.{statement}
 use Rattle.turns.proofs.answer.Tie as tie
@@ -14,17 +11,26 @@ returns c = search early-told
 returns-2 : tie.Need-returns-2
 returns-2 c = search unready-told
 
-answer-call-requires : tie.Need-answer-call-requires
-answer-call-requires c κs = search (needs, tests, prepared-known, seeing-known)
+part-decide-end : tie.Need-part-decide-end
+part-decide-end c = search seeing-room
+
+part-decide-end-2 : tie.Need-part-decide-end-2
+part-decide-end-2 c = search part-within
+
+decide-requires : tie.Need-decide-requires
+decide-requires c κs = search seeing-run
 
 returns-3 : tie.Need-returns-3
-returns-3 c = (search frames-wait, search frames-bare, refl, refl)
+returns-3 c = search frames-wait
 
 returns-4 : tie.Need-returns-4
-returns-4 c = search known-answered
+returns-4 c = search made-answered
 
 returns-5 : tie.Need-returns-5
-returns-5 c = search unread-told
+returns-5 c = search call-waits
+
+returns-6 : tie.Need-returns-6
+returns-6 c = search unread-told
 
 pub answer-spec : {M : Type 1} → statement M
 answer-spec =
@@ -33,18 +39,28 @@ answer-spec =
     (λ c. search needs)
     (λ c. search needs)
     (λ c κs. search needs)
-    (λ c. search needs)
     returns
     (λ c κs. search needs)
-    (λ c. search needs)
+    (λ c κs. search needs)
     returns-2
-    answer-call-requires
+    (λ c. search needs)
+    (λ c. search needs)
+    (λ c. search needs)
+    (λ c. search needs)
+    part-decide-end
+    (λ c. search needs)
+    (λ c. search needs)
+    part-decide-end-2
+    decide-requires
+    (λ c. search needs)
+    (λ c. search needs)
     (λ c. search needs)
     (λ c κs. search needs)
     returns-3
     (λ c. search needs)
     (λ c. search needs)
-    (λ c. search needs)
     returns-4
     (λ c. search needs)
-    returns-5)
+    (λ c. search needs)
+    returns-5
+    returns-6)

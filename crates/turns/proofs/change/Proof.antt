@@ -1,21 +1,21 @@
 -- `turns::change` meets its contract. Assumes nothing.
+use mathlib.Core.Path.{refl}
+use Rattle.turns.proofs.Changing.{waits-here, known-changed, unread-changed}
 use borrow.Author.Needs.{needs}
-use Rattle.turns.proofs.Replied.{frames-taken, unread-taken, known-taken}
-use Rattle.turns.proofs.Waiting.{waiting-begun, waiting-ready, waiting-empty}
 use Rattle.turns.proofs.change.Statement.{statement}
 use Rattle.turns.proofs.change.Tie as tie
 
 carry-requires : tie.Need-carry-requires
-carry-requires c κs = (search needs, search waiting-begun, search waiting-ready, search waiting-empty, search needs, search needs)
+carry-requires c κs = search waits-here
 
 returns : tie.Need-returns
-returns c = search frames-taken
+returns c = search known-changed
 
 returns-2 : tie.Need-returns-2
-returns-2 c = search known-taken
+returns-2 c = search known-changed
 
 returns-3 : tie.Need-returns-3
-returns-3 c = search unread-taken
+returns-3 c = search unread-changed
 
 pub change-spec : {M : Type 1} → statement M
 change-spec =
@@ -28,10 +28,7 @@ change-spec =
     (λ c. search needs)
     (λ c κs. search needs)
     (λ c. search needs)
-    (λ c. search needs)
     returns
     (λ c. search needs)
-    (λ c. search needs)
     returns-2
-    (λ c. search needs)
     returns-3)

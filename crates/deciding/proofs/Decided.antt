@@ -1,0 +1,76 @@
+-- From what one call decides to what any call comes to. Assumes nothing.
+use Prim.Native.Nat.{ℕ}
+use mathlib.Core.List.{List, [], _∷_}
+use mathlib.Core.Path.{_≡_, refl, subst, sym}
+use denote.Enum.Declared.{tagOf}
+use types.Run.{OneOf}
+use Rattle.model.specs.declared.Answer.{Answer}
+use Rattle.model.specs.declared.Operation.{Operation}
+use Rattle.model.specs.declared.Operation.the-variants.{Permit, Query, Add, Remove, Load, Mode, Fetch, Store}
+use Rattle.model.specs.declared.Right.{Right}
+use Rattle.model.proofs.Classes.{unmoving-at}
+use Rattle.model.proofs.Operation as operation-cases
+use Rattle.access.specs.Access.{Fetches, Stores}
+use Rattle.edits.specs.declared.Edit.the-variants.{Nothing}
+use Rattle.edits.specs.declared.Edited.{Edited}
+use Rattle.edits.specs.Edits.{changeOf, Fits, Decided}
+use Rattle.edits.proofs.Kept.{carried-reply}
+use Rattle.views.specs.declared.View.{View}
+use Rattle.deciding.specs.declared.Decision.{Decision}
+use Rattle.deciding.specs.declared.Decision.the-variants.{Made, NeedsTables}
+use Rattle.deciding.specs.Decisions.{CarriedOut, NotYet, DecidedTo}
+use Rattle.calls.proofs.Served.{still, fetched, stored}
+use Rattle.calls.proofs.Touches.{touch, Unmoving, LeavesScratch, LeavesBuffer}
+
+module _ (v : View) (o : Operation) (m b : List ℕ) (r : Decision) where
+  -- a call that touches tables alone
+  by : (k : Operation) → o ≡ k → Unmoving (touch k) → LeavesScratch (touch k) → LeavesBuffer (touch k) → (x : Edited) → r ≡ Made x → Decided v k x → DecidedTo v o m b r m b
+  by k is u ls lb x e d =
+      rw (is, e) (record {
+        fits = d .fits;
+        served = λ s c ok seen. still s c k m b u ls lb _ (carried-reply s x _ _ (d .decides s c ok seen) refl);
+      })
+
+  pub permit-made : (id guest : ℕ) (right : Right) (x : Edited) → o ≡ Permit id guest right → r ≡ Made x → Decided v (Permit id guest right) x → DecidedTo v o m b r m b
+  permit-made id guest right x is = by (Permit id guest right) is tt tt tt x
+
+  pub query-made : (owner name : ℕ) (x : Edited) → o ≡ Query owner name → r ≡ Made x → Decided v (Query owner name) x → DecidedTo v o m b r m b
+  query-made owner name x is = by (Query owner name) is tt tt tt x
+
+  pub add-made : (id : ℕ) (right : Right) (x : Edited) → o ≡ Add id right → r ≡ Made x → Decided v (Add id right) x → DecidedTo v o m b r m b
+  add-made id right x is = by (Add id right) is tt tt tt x
+
+  pub remove-made : (token : ℕ) (x : Edited) → o ≡ Remove token → r ≡ Made x → Decided v (Remove token) x → DecidedTo v o m b r m b
+  remove-made token x is = by (Remove token) is tt tt tt x
+
+  pub load-made : (register value : ℕ) (x : Edited) → o ≡ Load register value → r ≡ Made x → Decided v (Load register value) x → DecidedTo v o m b r m b
+  load-made register value x is = by (Load register value) is tt tt tt x
+
+  pub mode-made : (mode : ℕ) (x : Edited) → o ≡ Mode mode → r ≡ Made x → Decided v (Mode mode) x → DecidedTo v o m b r m b
+  mode-made mode x is = by (Mode mode) is tt tt tt x
+
+  -- FETCH and STORE
+  pub fetch-moved : (register address : ℕ) (a : Answer) (b' : List ℕ) → o ≡ Fetch register address → r ≡ Made (record { answer = a; edit = Nothing })
+      → Fetches v register address m b a b' → DecidedTo v o m b r m b'
+  unfolding Fits changeOf
+  fetch-moved register address a b' is e f =
+      rw (is, e) (record {
+        fits = tt;
+        served = λ s c ok seen. let told = f .is s c ok seen in fetched s c (Fetch register address) m b tt tt a b' (told .0) (told .1);
+      })
+
+  pub store-moved : (register address : ℕ) (a : Answer) (m' : List ℕ) → o ≡ Store register address → r ≡ Made (record { answer = a; edit = Nothing })
+      → Stores v register address m b a m' → DecidedTo v o m b r m' b
+  unfolding Fits changeOf
+  store-moved register address a m' is e f =
+      rw (is, e) (record {
+        fits = tt;
+        served = λ s c ok seen. let told = f .is s c ok seen in stored s c (Store register address) m b tt tt a m' (told .0) (told .1);
+      })
+
+-- the calls that ask for whole tables, by their places in the enum, move no bytes
+abbrev whole : List ℕ
+whole = 0 ∷ 1 ∷ 2 ∷ 4 ∷ 12 ∷ []
+
+pub not-yet : (v : View) (o : Operation) (m b : List ℕ) → OneOf whole (tagOf operation-cases.the-type o) → DecidedTo v o m b NeedsTables m b
+not-yet v o m b h = record { unmoving = unmoving-at whole o h refl; scratch = refl; buffer = refl }

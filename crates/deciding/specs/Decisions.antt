@@ -1,0 +1,36 @@
+-- What becomes of a call on what it has seen of the tables. `m` is scratch, `b` the call's buffer.
+use Prim.Native.Nat.{ℕ}
+use mathlib.Core.Bool.{true}
+use mathlib.Core.List.{List}
+use mathlib.Core.Path.{_≡_}
+use Rattle.model.specs.declared.Caller.{Caller}
+use Rattle.model.specs.declared.Operation.{Operation}
+use Rattle.model.specs.declared.State.{State}
+use Rattle.model.specs.Changes.{applied}
+use Rattle.model.specs.Classes.{noBytes, classOf}
+use Rattle.model.specs.Replies.{reply, callOf}
+use Rattle.model.specs.SoundTest.{sound}
+use Rattle.edits.specs.declared.Edited.{Edited}
+use Rattle.edits.specs.Edits.{changeOf, Fits}
+use Rattle.views.specs.declared.View.{View}
+use Rattle.views.specs.Asks.{asksBy}
+use Rattle.views.specs.Views.{viewOf}
+use Rattle.deciding.specs.declared.Decision.{Decision}
+use Rattle.deciding.specs.declared.Decision.the-variants.{Made, NeedsTables}
+use Rattle.calls.specs.Served.{Served}
+
+-- For every caller and every sound state which shows what was seen, the call has been served once its edit is stored.
+pub record CarriedOut (v : View) (o : Operation) (m b : List ℕ) (x : Edited) (m' b' : List ℕ) : Type 0 where
+  pub fits : Fits (x .edit)
+  pub served : (s : State) (c : Caller) → sound s ≡ true → v ≡ viewOf s (asksBy (c .guest) o)
+      → Served s (callOf c o) (reply (x .answer) (applied s (changeOf (x .edit)))) m b m' b'
+
+-- or nothing has been done yet, for a call that moves no bytes
+pub record NotYet (o : Operation) (m b m' b' : List ℕ) : Type 0 where
+  pub unmoving : classOf o .moves ≡ noBytes
+  pub scratch : m' ≡ m
+  pub buffer : b' ≡ b
+
+abbrev pub DecidedTo : View → Operation → (m b : List ℕ) → Decision → (m' b' : List ℕ) → Type 0
+DecidedTo v o m b (Made x) m' b' = CarriedOut v o m b x m' b'
+DecidedTo v o m b NeedsTables m' b' = NotYet o m b m' b'

@@ -1,0 +1,56 @@
+// Any call on what it sees of the tables: decided, its bytes moved, and its edit left to whoever owns the tables. A call that
+// asks for whole tables is left to be carried out.
+ghost use mathlib.Core.Path.{_≡_};
+ghost use Rattle.transfer.specs.Transferred.{RunIn};
+ghost use Rattle.edits.specs.declared.Edit.the-variants.{Nothing};
+ghost use Rattle.deciding.specs.declared.Decision.the-variants.{Made};
+ghost use Rattle.deciding.specs.Decisions.{DecidedTo};
+use edits::Edit;
+use edits::Edited;
+use model::Answer;
+use model::Operation;
+use views::View;
+
+pub enum Decision {
+    Made { edited: Edited },
+    NeedsTables,
+}
+
+fn made(edited: Edited) -> Decision
+    ensures { λ r. ⌜ r ≡ Made edited ⌝ }
+{
+    Decision::Made { edited }
+}
+
+// A fetch or a store changes no table.
+fn moved(answer: Answer) -> Decision
+    ensures { λ r. ⌜ r ≡ Made (record { answer = answer; edit = Nothing }) ⌝ }
+{
+    let edited = Edited {
+        answer: answer,
+        edit: Edit::Nothing,
+    };
+    Decision::Made { edited }
+}
+
+// `scratch` and `buffer` are the machine's frames and the call's own buffer.
+pub fn decide(v: View, scratch: &mut [u8], operation: Operation, buffer: &mut [u8]) -> Decision
+    requires { ⌜ RunIn (v .space) (now scratch) ⌝ }
+    ensures { λ r. ⌜ DecidedTo v operation (now (scratch .entry)) (now (buffer .entry)) r (now (scratch .exit)) (now (buffer .exit)) ⌝ }
+{
+    match operation {
+        Operation::Permit { id, guest, right } => made(rights::decide_permit(v, id, guest, right)),
+        Operation::Query { owner, name } => made(rights::decide_query(v, owner, name)),
+        Operation::Add { id, right } => made(rights::decide_add(v, id, right)),
+        Operation::Remove { token } => made(rights::decide_remove(v, token)),
+        Operation::Load { register, value } => made(cpus::decide_load(v, register, value)),
+        Operation::Mode { mode } => made(cpus::decide_mode(v, mode)),
+        Operation::Fetch { register, address } => {
+            moved(access::fetch_seen(v, scratch, register, address, buffer))
+        }
+        Operation::Store { register, address } => {
+            moved(access::store_seen(v, scratch, register, address, buffer))
+        }
+        _ => Decision::NeedsTables,
+    }
+}
