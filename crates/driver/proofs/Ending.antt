@@ -1,19 +1,57 @@
 -- The end of the input, in its three cases. Assumes nothing.
-use Prim.Native.Nat.{ℕ, _≤_, _<_}
+use Prim.Native.Nat.{ℕ, _+_, _≤_, _<_}
 use mathlib.Core.Bool.{true, false}
-use mathlib.Core.List.{List, []}
+use mathlib.Core.List.{List, [], _∷_, append-nil}
 use mathlib.Core.Path.{_≡_, subst, sym, ap, _∙_}
+use native.Mathlib.Decide.{decLe}
 use native.Mathlib.Omega.{arith}
 use lib.Dec.{eqb}
-use lib.ListN.{length, take}
+use lib.ListN.{length, take, replicate, length-replicate}
 use borrow.Author.Tests.{eq-eqb, ne-eqb}
+use Rattle.lists.specs.Bytes.{over}
+use Rattle.lists.specs.Choice.{choose}
+use Rattle.lists.proofs.Bytes.{over-whole}
 use Rattle.lists.proofs.Choice.{yes!, no! }
 use Rattle.digits.specs.Wrote.{Wrote}
 use Rattle.digits.proofs.Writing.{wrote-none}
+use Rattle.driver.specs.declared.Fed.{Fed}
 use Rattle.driver.specs.declared.Session.{Session}
-use Rattle.driver.specs.Feed.{Feed, ended, replyTo, lastWords}
-use Rattle.driver.specs.Fed.{feedOf, closing, FinishedTo, finished, full}
+use Rattle.driver.specs.Feed.{Feed, ended, replyTo, next, says, after, said, lastWords}
+use Rattle.driver.specs.Fed.{feedOf, FedTo, closing, FinishedTo, finished, full}
 use Rattle.driver.proofs.Held.{within, kept-same}
+
+-- A line that is held ends as by a newline.
+module _ (s s' : Session) (held line line' m m' out out' : List ℕ) (r : Fed) (same : line ≡ held) (room : 600 ≤ length out)
+    (t : FedTo (feedOf s line m) (10 ∷ []) out (r .used) (r .written) (feedOf s' line' m') out') where
+  -- there is room for its reply, so that it has been taken
+  taken : r .used ≡ 1
+  unfolding said
+  taken = go (decLe (r .used) 0)
+    where
+      go : Dec (r .used ≤ 0) → r .used ≡ 1
+      go (no h) = omega (arith, t .going .within)
+      go (yes h) =
+          let none : r .used ≡ 0 = omega arith in
+          let end : r .written ≡ 0 = t .going .text .place ∙ ap (λ k. 0 + length (said (feedOf s line m) (take k (10 ∷ [])))) none in
+          absurd (omega (arith, t .stopped (omega arith), end))
+
+  pub last-said : Wrote out 0 (replyTo (feedOf s held m)) out' (r .written)
+  unfolding said says choose eqb
+  last-said =
+      let w : Wrote out 0 (said (feedOf s line m) (take 1 (10 ∷ []))) out' (r .written) = rw taken at (t .going .text) in
+      rw (append-nil (replyTo (feedOf s line m)), same) at w
+
+  pub last-scratch : m' ≡ ended (feedOf s held m) .session .scratch
+  unfolding after next choose eqb
+  last-scratch =
+      let f : feedOf s' line' m' ≡ after (feedOf s line m) (take 1 (10 ∷ [])) = rw taken at (t .going .feed) in
+      rw same at (ap (λ (g : Feed). g .session .scratch) f)
+
+-- what is held, copied
+pub copied : (line held : List ℕ) → line ≡ over (replicate 601 0) 0 held → length held ≡ 601 → line ≡ held
+copied line held e l =
+    let z : length (replicate {A = ℕ} 601 0) ≡ 601 = length-replicate {A = ℕ} 601 0 in
+    e ∙ over-whole (replicate 601 0) held (z ∙ sym l)
 
 -- no room for a reply
 pub finish-full : (s : Session) (h m out : List ℕ) → length out < 600 → FinishedTo (feedOf s h m) m out false 0 m out

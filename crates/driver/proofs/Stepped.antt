@@ -13,25 +13,22 @@ use Rattle.model.specs.declared.Request.{Request}
 use Rattle.model.specs.Lines.{stores, lengthOf, readLine, dataOf}
 use Rattle.model.specs.Session.{Session, requestTurn, lineTurn}
 use Rattle.lines.proofs.Stored.{data-length, data-most, data-none}
-use Rattle.digits.specs.Wrote.{Wrote}
 use Rattle.turns.specs.declared.Answered.{Answered}
 use Rattle.turns.specs.declared.Answered.the-variants.{To, NotYet}
-use Rattle.turns.specs.declared.Host.{Host}
 use Rattle.ready.specs.Usable.{usable}
 use Rattle.turns.specs.declared.Here.{Here}
-use Rattle.turns.specs.Taken.{sessionOf, dataIn, Prepared, Taken}
-use Rattle.turns.specs.Told.{Sees, Seeing, hostOf, edited, AnsweredTo}
+use Rattle.turns.specs.declared.Changed.{Changed}
+use Rattle.turns.specs.declared.Outcome.{Outcome}
+use Rattle.turns.specs.Taken.{sessionOf, dataIn, Prepared, Taken, Waiting, hostAfter, ChangedTo}
+use Rattle.turns.specs.Told.{Sees, Seeing, hostOf, edited, AnsweredBy, Unanswered, AnsweredTo}
 use Rattle.turns.proofs.Filled.{prepared-long}
-use Rattle.turns.proofs.Waiting.{answered-by, yet-taken}
 use Rattle.edits.specs.declared.Edit.{Edit}
 use Rattle.views.specs.declared.Asks.{Asks}
 use Rattle.views.specs.declared.View.{View}
 use Rattle.views.specs.Asks.{asksFor}
 use Rattle.views.specs.Views.{viewOf}
 use Rattle.model.specs.declared.State.{State}
-use Rattle.driver.specs.declared.Session.{Session as Standing}
-use Rattle.driver.specs.Feed.{ended, replyTo, wholeLine}
-use Rattle.driver.specs.Fed.{feedOf}
+use Rattle.driver.specs.Feed.{wholeLine}
 use Rattle.driver.proofs.Cut.{read-cut, data-cut}
 
 -- What the reader leaves of the line l: its request q, and its data over the zeros of a buffer b.
@@ -54,16 +51,32 @@ module _ (l : List ℕ) (q : Request) (b : List ℕ) (e : q ≡ readLine l) (f :
   read-turn s = rw (read-data, e)
 
   -- it has been answered on what it saw of the tables s
-  module _ (x : Here) (v : View) (m out : List ℕ) (y : Answered) (m' out' : List ℕ) (a : AnsweredTo x v q (dataIn q b) m out y m' out') (s : State) where
+  module _ (x : Here) (v : View) (m : List ℕ) (y : Answered) (m' b' : List ℕ) (a : AnsweredTo x v q m b y m' b') where
     -- once the edit is stored
-    pub line-edited : (place : ℕ) (ed : Edit) → y ≡ To place ed → Sees s q (length m) x v
-        → Taken (lineTurn (sessionOf (hostOf x s) m) l) (x .number) out (x .at) (edited x s ed place) m' out'
-    line-edited place ed z w = rw (read-turn (sessionOf (hostOf x s) m)) at (answered-by x v q (dataIn q b) m out y m' out' a place ed z .taken s w)
+    module _ (o : Outcome) (ed : Edit) (z : y ≡ To o ed) where
+      pub line-answered : AnsweredBy x v q m b o ed m' b'
+      line-answered = subst (λ (w : Answered). AnsweredTo x v q m b w m' b') z a
+
+      pub line-edited : (s : State) → Sees s q (length m) x v → Taken (lineTurn (sessionOf (hostOf x s) m) l) o b' (edited x s ed) m'
+      line-edited s w = rw (read-turn (sessionOf (hostOf x s) m)) at (line-answered .taken s w)
 
     -- not yet, but on the tables then
-    pub line-changed : (h : Host) (m₁ out₁ : List ℕ) → y ≡ NotYet → Taken (requestTurn (sessionOf (hostOf x s) m') q []) (x .number) out' (x .at) h m₁ out₁
-        → Taken (lineTurn (sessionOf (hostOf x s) m) l) (x .number) out (x .at) h m₁ out₁
-    line-changed h m₁ out₁ z t = rw (read-turn (sessionOf (hostOf x s) m)) at (yet-taken x v q (dataIn q b) m out y m' out' a s h m₁ out₁ z t)
+    module _ (z : y ≡ NotYet) where
+      unanswered : Unanswered x q m b m' b'
+      unanswered = subst (λ (w : Answered). AnsweredTo x v q m b w m' b') z a
+
+      pub line-waits : Waiting (x .begun) (x .ready) q
+      line-waits = unanswered .waits
+
+      pub line-ready : (s : State) → x .ready ≡ usable s (length m) → x .ready ≡ usable s (length m')
+      line-ready s u = rw (unanswered .scratch) u
+
+      pub line-changed : (s : State) (r : Changed) (m₁ : List ℕ) → ChangedTo (hostOf x s) m' q r m₁ → Taken (lineTurn (sessionOf (hostOf x s) m) l) (r .outcome) b' (hostAfter r) m₁
+      line-changed s r m₁ t =
+          let u = unanswered in
+          let alone : Taken (requestTurn (sessionOf (hostOf x s) m) q []) (r .outcome) b' (hostAfter r) m₁ = rw (u .scratch) at (t .taken b') in
+          let whole : Taken (requestTurn (sessionOf (hostOf x s) m) q (dataIn q b)) (r .outcome) b' (hostAfter r) m₁ = rw (u .bare) alone in
+          rw (read-turn (sessionOf (hostOf x s) m)) at whole
 
 -- What has been read out of the tables is what the request sees.
 pub sees-read : (s : State) (q : Request) (a : Asks) (room : ℕ) (x : Here) (v : View) → a ≡ asksFor q → v ≡ viewOf s a → x .ready ≡ usable s room → x .frames ≡ s .frames → Sees s q room x v
@@ -93,15 +106,3 @@ module _ (h h' l : List ℕ) (have n : ℕ) (e : take n h' ≡ wholeLine h have 
 
   pub held-data : (b b₀ : List ℕ) → b ≡ over b₀ 0 (dataOf (take (n - 0) (drop 0 h'))) → b ≡ over b₀ 0 (dataOf (wholeLine h have l))
   held-data b b₀ p = p ∙ ap (λ k. over b₀ 0 (dataOf k)) held-is
-
--- the last line
-module _ (s : Standing) (held m m₁ out out₁ : List ℕ) (h : Host)
-    (t : Taken (lineTurn (feedOf s held m .session) (take (s .have - 0) (drop 0 held))) (s .line) out 0 h m₁ out₁) where
-  last-turn : Taken (lineTurn (feedOf s held m .session) (take (s .have) held)) (s .line) out 0 h m₁ out₁
-  last-turn = rw (sub-zero (s .have)) at t
-
-  pub last-said : Wrote out 0 (replyTo (feedOf s held m)) out₁ (h .at)
-  last-said = last-turn .reply
-
-  pub last-scratch : m₁ ≡ ended (feedOf s held m) .session .scratch
-  last-scratch = ap (λ (k : Session). k .scratch) (last-turn .session)

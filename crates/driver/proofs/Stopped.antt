@@ -13,24 +13,24 @@ use Rattle.driver.proofs.Feeding.{going-part, fed-full, fed-whole}
 use Rattle.driver.proofs.Turned.{feedAt}
 
 -- what is handed back
-abbrev handed : Host → (line have used : ℕ) → Fed
-handed h n k i = record { session = record { begun = h .begun; line = n; have = k; state = h .state }; used = i; written = h .at }
+abbrev handed : Host → (at line have used : ℕ) → Fed
+handed h a n k i = record { session = record { begun = h .begun; line = n; have = k; state = h .state }; used = i; written = a }
 
-module _ (f : Feed) (input out out₁ m held : List ℕ) (i n have : ℕ) (h : Host) (g : Going f input out i (h .at) (feedAt h m n have held) out₁) (r : Fed) where
+module _ (f : Feed) (input out out₁ m held : List ℕ) (i a n have : ℕ) (h : Host) (g : Going f input out i a (feedAt h m n have held) out₁) (r : Fed) where
   -- room is missing
-  pub stop-full : r ≡ handed h n have i → length out₁ ≡ length out → length out₁ - h .at < 600 → Starts input i
+  pub stop-full : r ≡ handed h a n have i → length out₁ ≡ length out → length out₁ - a < 600 → Starts input i
       → FedTo f input out (r .used) (r .written) (feedOf (r .session) held m) out₁
-  stop-full e same less t = rw e (fed-full f input out out₁ i (h .at) _ g same less t)
+  stop-full e same less t = rw e (fed-full f input out out₁ i a _ g same less t)
 
   -- the input has ended at the end of a line
-  pub stop-end : r ≡ handed h n have i → length input ≤ i → FedTo f input out (r .used) (r .written) (feedOf (r .session) held m) out₁
-  stop-end e less = rw e (fed-whole f input out out₁ i (h .at) _ g less)
+  pub stop-end : r ≡ handed h a n have i → length input ≤ i → FedTo f input out (r .used) (r .written) (feedOf (r .session) held m) out₁
+  stop-end e less = rw e (fed-whole f input out out₁ i a _ g less)
 
   -- it has ended within a line
-  pub stop-part : (e k : ℕ) (held₁ : List ℕ) → e ≡ newlineFrom input i → i ≤ e → have ≤ 601 → h .at + 600 ≤ length out → e ≡ length input
+  pub stop-part : (e k : ℕ) (held₁ : List ℕ) → e ≡ newlineFrom input i → i ≤ e → have ≤ 601 → a + 600 ≤ length out → e ≡ length input
       → take k held₁ ≡ take 601 (take have held ++ take (e - i) (drop i input))
-      → r ≡ handed h n k e → FedTo f input out (r .used) (r .written) (feedOf (r .session) held₁ m) out₁
+      → r ≡ handed h a n k e → FedTo f input out (r .used) (r .written) (feedOf (r .session) held₁ m) out₁
   stop-part e k held₁ q l few fits all kept z =
       let short : length (take have held) ≤ 601 = omega (arith, length-take have held) in
-      let more = going-part f input out out₁ i e (h .at) n (sessionOf h m) (take have held) g q l short fits (take k held₁) (omega arith) kept in
-      rw z (fed-whole f input out out₁ e (h .at) _ more (omega arith))
+      let more = going-part f input out out₁ i e a n (sessionOf h m) (take have held) g q l short fits (take k held₁) (omega arith) kept in
+      rw z (fed-whole f input out out₁ e a _ more (omega arith))

@@ -6,11 +6,13 @@ use native.Mathlib.Nat.{sub-zero}
 use native.Mathlib.Omega.{arith}
 use lib.ListN.{length, take, drop, length-take}
 use Rattle.model.specs.declared.Request.{Request}
-use Rattle.model.specs.Session.{lineTurn, requestTurn}
+use Rattle.model.specs.Session.{lineTurn, lineText}
 use Rattle.turns.specs.declared.Host.{Host}
 use Rattle.ready.specs.Usable.{usable}
 use Rattle.turns.specs.declared.Here.{Here}
-use Rattle.turns.specs.Taken.{sessionOf, Taken}
+use Rattle.turns.specs.declared.Outcome.{Outcome}
+use Rattle.turns.specs.Taken.{sessionOf, outcomeOf, Taken}
+use Rattle.digits.specs.Wrote.{Wrote}
 use Rattle.turns.specs.Told.{hostOf, edited}
 use Rattle.edits.specs.declared.Edit.{Edit}
 use Rattle.edits.specs.Edits.{changeOf}
@@ -24,20 +26,20 @@ use Rattle.driver.proofs.Feeding.{going-line}
 abbrev pub feedAt : Host → (scratch : List ℕ) → (line have : ℕ) → (held : List ℕ) → Feed
 feedAt h m n k held = record { session = sessionOf h m; line = n; held = take k held }
 
--- From i on the line is completed up to its newline at e.
-module _ (f : Feed) (h : Host) (input out out₁ m held : List ℕ) (i e n n₁ have : ℕ) (g : Going f input out i (h .at) (feedAt h m n have held) out₁)
-    (c : e ≡ newlineFrom input i) (l : i ≤ e) (less : e < length input) (few : have ≤ 601) (fits : h .at + 600 ≤ length out) (y : n₁ ≡ (n + 1) % 2 ^ 64) where
+-- From i on the line is completed up to its newline at e, and the reply to its outcome is written.
+module _ (f : Feed) (h : Host) (input out out₁ m held : List ℕ) (i e a n n₁ have : ℕ) (g : Going f input out i a (feedAt h m n have held) out₁)
+    (c : e ≡ newlineFrom input i) (l : i ≤ e) (less : e < length input) (few : have ≤ 601) (fits : a + 600 ≤ length out) (y : n₁ ≡ (n + 1) % 2 ^ 64) where
   abbrev line : List ℕ
   line = wholeLine held have (take (e - i) (drop i input))
 
-  pub turned : (h₁ : Host) (m₁ out₂ : List ℕ) → Taken (lineTurn (sessionOf h m) line) n out₁ (h .at) h₁ m₁ out₂
-      → Going f input out (e + 1) (h₁ .at) (record { session = sessionOf h₁ m₁; line = n₁; held = [] }) out₂
-  turned h₁ m₁ out₂ t =
+  pub turned : (h₁ : Host) (m₁ b out₂ : List ℕ) (o : Outcome) (p : ℕ) → Taken (lineTurn (sessionOf h m) line) o b h₁ m₁ → Wrote out₁ a (lineText n (outcomeOf o b)) out₂ p
+      → Going f input out (e + 1) p (record { session = sessionOf h₁ m₁; line = n₁; held = [] }) out₂
+  turned h₁ m₁ b out₂ o p t w =
       let short : length (take have held) ≤ 601 = omega (arith, length-take have held) in
-      rw y (going-line f input out out₁ i e (h .at) n (sessionOf h m) (take have held) g c l short fits (sessionOf h₁ m₁) out₂ (h₁ .at) less (t .session) (t .reply))
+      rw y (going-line f input out out₁ i e a n (sessionOf h m) (take have held) g c l short fits (sessionOf h₁ m₁) out₂ p less (t .session) (rw (t .outcome) at w))
 
 -- the same of a request that has been answered once its edit is stored, by an edit that is found to be y
-module _ (x : Here) (s t : State) (l m m₁ out out₁ : List ℕ) (place : ℕ) (ed y : Edit)
-    (k : Taken (lineTurn (sessionOf (hostOf x s) m) l) (x .number) out (x .at) (edited x s ed place) m₁ out₁) (e : ed ≡ y) (p : t ≡ applied s (changeOf y)) where
-  pub stored-taken : Taken (lineTurn (sessionOf (hostOf x s) m) l) (x .number) out (x .at) (record { begun = x .begun; ready = x .ready; at = place; state = t }) m₁ out₁
+module _ (x : Here) (s t : State) (l m m₁ b : List ℕ) (o : Outcome) (ed y : Edit) (k : Taken (lineTurn (sessionOf (hostOf x s) m) l) o b (edited x s ed) m₁)
+    (e : ed ≡ y) (p : t ≡ applied s (changeOf y)) where
+  pub stored-taken : Taken (lineTurn (sessionOf (hostOf x s) m) l) o b (hostOf x t) m₁
   stored-taken = rw p (rw e at k)

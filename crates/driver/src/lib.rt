@@ -157,16 +157,15 @@ fn feed_lines(
             begun: begun,
             ready: ready,
             frames: state.frames,
-            at: at,
-            number: line,
         };
-        let answered = turns::answer(here, v, scratch, request, &mut buffer, out);
+        let answered = turns::answer(here, v, scratch, request, &mut buffer);
+        let number = line;
         line = std::num::wrapping_add_u64(line, 1);
         have = 0;
         i = next;
         match answered {
-            Answered::To { place, edit } => {
-                at = place;
+            Answered::To { outcome, edit } => {
+                at = turns::tell(out, at, number, outcome, &buffer);
                 match edit {
                     Edit::Nothing => {}
                     Edit::Permit {
@@ -200,13 +199,13 @@ fn feed_lines(
                 let host = Host {
                     begun: begun,
                     ready: ready,
-                    at: at,
                     state: state,
                 };
-                let after = turns::change(host, scratch, here.number, request, out);
+                let after = turns::change(host, scratch, request);
+                let outcome = after.outcome;
+                at = turns::tell(out, at, number, outcome, &buffer);
                 begun = after.begun;
                 ready = after.ready;
-                at = after.at;
                 let tables = after.state;
                 state = tables;
             }
@@ -229,37 +228,15 @@ pub fn feed(
     feed_lines(session, held, scratch, input, out)
 }
 
-// A line that is held at the end of the input.
+// A line that is held at the end of the input ends as by a newline.
 fn last_line(session: Session, held: &[u8], scratch: &mut [u8], out: &mut [u8]) -> usize
-    requires { ⌜ (session .have ≤ length (now held)) × (600 ≤ length (now out)) ⌝ }
+    requires { ⌜ (length (now held) ≡ 601) × (session .have ≤ 601) × (600 ≤ length (now out)) ⌝ }
     ensures { λ r. ⌜ (Wrote (now (out .entry)) 0 (replyTo (feedOf session (now (held .entry)) (now (scratch .entry)))) (now (out .exit)) r) × (now (scratch .exit) ≡ ended (feedOf session (now (held .entry)) (now (scratch .entry))) .session .scratch) ⌝ }
 {
-    let state = session.state;
-    let have = session.have;
-    let mut buffer = [0u8; 257];
-    let request = lines::read_line(&held[0..have], &mut buffer);
-    let v = views::seen_in(state, views::asked(request));
-    let here = Here {
-        begun: session.begun,
-        ready: ready::is_usable(state, scratch.len()),
-        frames: state.frames,
-        at: 0,
-        number: session.line,
-    };
-    let answered = turns::answer(here, v, scratch, request, &mut buffer, out);
-    match answered {
-        Answered::To { place, edit: _ } => place,
-        Answered::NotYet => {
-            let host = Host {
-                begun: here.begun,
-                ready: here.ready,
-                at: 0,
-                state: state,
-            };
-            let after = turns::change(host, scratch, here.number, request, out);
-            after.at
-        }
-    }
+    let mut line = [0u8; 601];
+    moves::put(&mut line, held);
+    let r = feed_lines(session, &mut line, scratch, b"\n", out);
+    r.written
 }
 
 // The end of the input: a line that has a byte is answered.
