@@ -5,7 +5,7 @@ ghost use lib.Dec.{eqb};
 ghost use Rattle.lists.specs.Choice.{choose};
 ghost use Rattle.model.specs.Changes.{released, revoked};
 ghost use Rattle.model.specs.Tables.{noSpace, noPermit};
-ghost use Rattle.losses.specs.Looks.{namedSlot, lookPlace, revokedEntry};
+ghost use Rattle.losses.specs.Looks.{namedSlot, lookPlace, revokedEntry, keptList};
 use model::Entry;
 use model::Grant;
 use model::Permit;
@@ -95,15 +95,17 @@ pub fn entry_without(e: Entry, slot: u8) -> Entry
     revoke_if(e, slot as u32 == named_slot(e))
 }
 
-// The place of the list that keeps its entries for a space: the owner's, and of a space that is destroyed none.
-pub fn kept_list(owner: usize, gone: bool) -> usize
-    requires { ⌜ owner < 8 ⌝ }
-    ensures { λ r. ⌜ (r ≡ choose gone 8 owner) × (r ≤ 8) ⌝ }
+// The place of the list that keeps its entries for a space, by its guest: 8, which is no list, where none keeps them.
+pub fn kept_list(owner: usize) -> usize
+    ensures { λ r. ⌜ (r ≡ keptList owner) × (r ≤ 8) ⌝ }
 {
-    if gone {
+    if owner == 0 {
         return 8;
     }
-    owner
+    if owner <= 8 {
+        return owner - 1;
+    }
+    8
 }
 
 // What becomes of an entry where a guest is reset: its own are released, others' entries for its spaces revoked.

@@ -1,6 +1,7 @@
 // DESTROY, ISOLATE and RESET. The first two change what belongs to one slot, RESET what belongs to a guest. The slots of a guest's
 // spaces are a table of Booleans. Its last place is no slot and false: an entry that names no slot looks there, so that every
 // entry is looked up alike.
+ghost use Prim.Native.Nat.{_≤_, _<_};
 ghost use mathlib.Core.Bool.{true, false};
 ghost use mathlib.Core.Path.{_≡_};
 ghost use Rattle.lists.specs.Choice.{choose};
@@ -24,6 +25,17 @@ use model::Reply;
 use model::Space;
 use model::State;
 
+// The place of the list that keeps its entries for a space: the owner's, and of a space that is destroyed none.
+fn kept_list(owner: usize, gone: bool) -> usize
+    requires { ⌜ owner < 8 ⌝ }
+    ensures { λ r. ⌜ (r ≡ choose gone 8 owner) × (r ≤ 8) ⌝ }
+{
+    if gone {
+        return 8;
+    }
+    owner
+}
+
 // The change over one slot, whose space is destroyed or isolated: its eight permits go, and the lists below and above the one that
 // is kept lose their entries for it.
 fn withdraw_one(mut s: State, owner: usize, slot: u8, gone: bool) -> State
@@ -36,7 +48,7 @@ fn withdraw_one(mut s: State, owner: usize, slot: u8, gone: bool) -> State
     for k in u * 8..u * 8 + 8 {
         s.permits[k] = losses::no_permit();
     }
-    let kept = losses::kept_list(owner, gone);
+    let kept = kept_list(owner, gone);
     for k in 0..kept * 30 {
         let e = s.entries[k];
         s.entries[k] = losses::entry_without(e, slot);
