@@ -1,3 +1,4 @@
 -- Laws of this crate.
 pub mod Ranges
 pub mod Closed
+pub mod Withdrawn

@@ -1,0 +1,58 @@
+-- The tables with one space withdrawn, as the model says: isolated, where its owner keeps its entries, or destroyed, where no guest
+-- does. Assumes nothing.
+use Prim.Native.Nat.{ℕ, _/_, _+_, _<_}
+use mathlib.Core.Bool.{Bool, true, false, not}
+use mathlib.Core.List.{List}
+use mathlib.Core.Path.{_≡_, refl, sym, ap, fun-ext, _∙_}
+use native.Mathlib.Omega.{arith}
+use lib.Dec.{eqb}
+use lib.ListN.{length, set}
+use borrow.Author.Tests.{eqb-true, ne-eqb}
+use Rattle.lists.specs.Choice.{both, either}
+use Rattle.lists.proofs.Choice.{no!, both-when, both-comm, both-yes}
+use Rattle.lists.proofs.Maps.{map-alike, map-nothing, map-one}
+use Rattle.model.specs.declared.Change.the-variants.{DestroySpace, IsolateSpace}
+use Rattle.model.specs.declared.Entry.{Entry}
+use Rattle.model.specs.declared.Space.{Space}
+use Rattle.model.specs.declared.State.{State}
+use Rattle.model.specs.Changes.{revoked, listOwner, vacated, unpermitted, loses, revokedAll, withdrawn, applied}
+use Rattle.model.specs.Tables.{noSpace, spaceAt, withSpaces, withPermits, withEntries}
+use Rattle.closing.specs.Slot.{losesSlot}
+
+absorbed : (a b : Bool) → either a (both a b) ≡ a
+unfolding either both
+absorbed true b = refl
+absorbed false b = refl
+
+module _ (ss : List Space) (u : ℕ) where
+  -- no slot is emptied, and one is
+  none-vacated : ss ≡ vacated (λ v. false) ss
+  unfolding vacated
+  none-vacated = sym (map-alike _ (λ v x. x) ss (λ v x b. no! _ _ refl) ∙ map-nothing ss)
+
+  one-vacated : u < length ss → set ss u noSpace ≡ vacated (eqb u) ss
+  unfolding vacated
+  one-vacated h = sym (map-one ss u noSpace noSpace h)
+
+  -- whose entries are lost: everyone's but the owner's, and everyone's
+  owner-keeps : losesSlot (spaceAt ss u .owner) u ≡ loses ss (λ v. false) (eqb u)
+  unfolding losesSlot loses either
+  owner-keeps = fun-ext (λ h. fun-ext (λ v. both-when (eqb u v) _ _ (λ e. ap (λ k. not (eqb (spaceAt ss k .owner) h)) (eqb-true u v e))))
+
+  all-lose : (h : ℕ) → losesSlot 0 u (h + 1) ≡ loses ss (eqb u) (eqb u) (h + 1)
+  unfolding losesSlot loses
+  all-lose h = fun-ext (λ v. both-comm (eqb u v) _ ∙ both-yes (eqb u v) (ap not (ne-eqb 0 (h + 1) (λ z. omega arith))) ∙ sym (absorbed (eqb u v) _))
+
+  all-revoked : (es : List Entry) → revokedAll (losesSlot 0 u) es ≡ revokedAll (loses ss (eqb u) (eqb u)) es
+  unfolding revokedAll
+  all-revoked es = map-alike _ _ es (λ j e b. ap (λ t. revoked t e) (all-lose (j / 30)))
+
+module _ (s : State) (u : ℕ) where
+  pub isolated : withEntries (withPermits s (unpermitted (eqb u) (s .permits))) (revokedAll (losesSlot (spaceAt (s .spaces) u .owner) u) (s .entries)) ≡ applied s (IsolateSpace u)
+  unfolding withdrawn
+  isolated = rw (owner-keeps (s .spaces) u, ← none-vacated (s .spaces) u)
+
+  pub destroyed : u < length (s .spaces)
+      → withEntries (withPermits (withSpaces s (set (s .spaces) u noSpace)) (unpermitted (eqb u) (s .permits))) (revokedAll (losesSlot 0 u) (s .entries)) ≡ applied s (DestroySpace u)
+  unfolding withdrawn
+  destroyed h = rw (all-revoked (s .spaces) u (s .entries), one-vacated (s .spaces) u h)
