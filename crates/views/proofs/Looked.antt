@@ -10,7 +10,7 @@ use Rattle.lookup.specs.Rows.{rowOf, slotRow}
 use Rattle.lookup.proofs.Rows.{row-place}
 use Rattle.model.specs.declared.Right.{Right}
 use Rattle.model.specs.declared.State.{State}
-use Rattle.model.specs.declared.Operation.the-variants.{Permit, Query}
+use Rattle.model.specs.declared.Operation.the-variants.{Permit, Isolate, Query}
 use Rattle.model.specs.Leaves.{callerPlace}
 use Rattle.model.specs.Searches.{slotOf, slotNamed}
 use Rattle.model.specs.Tables.{noPermit, spaceAt}
@@ -44,6 +44,10 @@ module _ (s : State) (a : Asks) (v : View) (e : v ≡ viewOf s a) where
 pub permit-finds : (s : State) (g i h : ℕ) (r : Right) (v : View) → v ≡ viewOf s (asksBy g (Permit i h r)) → v .slot ≡ slotOf (s .spaces) i
 unfolding viewOf asksBy searchUsing searchBy foundBy choose soughtBy slotOf lowest
 permit-finds s g i h r v e = ap (λ (x : View). x .slot) e
+
+pub isolate-finds : (s : State) (g i : ℕ) (v : View) → v ≡ viewOf s (asksBy g (Isolate i)) → v .slot ≡ slotOf (s .spaces) i
+unfolding viewOf asksBy searchUsing searchBy foundBy choose soughtBy slotOf lowest
+isolate-finds s g i v e = ap (λ (x : View). x .slot) e
 
 pub query-finds : (s : State) (g o n : ℕ) (v : View) → v ≡ viewOf s (asksBy g (Query o n)) → v .slot ≡ slotNamed (s .spaces) o n
 unfolding viewOf asksBy searchUsing searchBy foundBy choose soughtBy slotNamed lowest

@@ -6,7 +6,7 @@ use borrow.Author.Tests.{le-leb, lt-leb, ne-eqb, eq-eqb}
 use Rattle.lists.proofs.Choice.{yes!, no! }
 use Rattle.model.specs.declared.Call.{Call}
 use Rattle.model.specs.declared.Cpu.{Cpu}
-use Rattle.model.specs.declared.Operation.the-variants.{Permit, Query, Add, Remove}
+use Rattle.model.specs.declared.Operation.the-variants.{Permit, Isolate, Query, Add, Remove}
 use Rattle.model.specs.declared.Right.{Right}
 use Rattle.model.specs.declared.Standing.{Standing}
 use Rattle.model.specs.Names.{baseName}
@@ -26,6 +26,10 @@ module _ (k : Call) where
   pub asks-permit : (i g : ℕ) (r : Right) → k .operation ≡ Permit i g r → record { caller = k .caller .guest; other = g; uses = Token 0; sought = Id i; takes = false } ≡ asked
   unfolding asksBy
   asks-permit i g r e = rw e refl
+
+  pub asks-isolate : (i : ℕ) → k .operation ≡ Isolate i → record { caller = k .caller .guest; other = k .caller .guest; uses = Token 0; sought = Id i; takes = false } ≡ asked
+  unfolding asksBy
+  asks-isolate i e = rw e refl
 
   pub asks-query : (o n : ℕ) → k .operation ≡ Query o n → record { caller = k .caller .guest; other = k .caller .guest; uses = Token 0; sought = Named o n; takes = false } ≡ asked
   unfolding asksBy

@@ -27,7 +27,7 @@ asksBy c (Enrol x) = plainly c
 asksBy c (Create name pages) = plainly c
 asksBy c (Destroy id) = plainly c
 asksBy c (Permit id guest right) = asking c guest (Token 0) (Id id)
-asksBy c (Isolate id) = plainly c
+asksBy c (Isolate id) = asking c c (Token 0) (Id id)
 asksBy c (Query owner name) = asking c c (Token 0) (Named owner name)
 asksBy c (Add id right) = record { caller = c; other = c; uses = Token 0; sought = Id id; takes = true }
 asksBy c (Remove token) = asking c c (Token token) Nothing

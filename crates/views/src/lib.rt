@@ -120,7 +120,13 @@ pub fn asked_by(call: Call) -> Asks
             sought: Sought::Id { id: id },
             takes: false,
         },
-        Operation::Isolate { id: _ } => plain(g),
+        Operation::Isolate { id } => Asks {
+            caller: g,
+            other: g,
+            uses: Uses::Token { token: 0 },
+            sought: Sought::Id { id: id },
+            takes: false,
+        },
         Operation::Query { owner, name } => Asks {
             caller: g,
             other: g,

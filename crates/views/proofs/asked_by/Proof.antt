@@ -1,6 +1,6 @@
 -- `views::asked_by` meets its contract. Assumes nothing.
 use Rattle.views.specs.Asks.{asksBy}
-use Rattle.views.proofs.Told.{asks-permit, asks-query, asks-add, asks-remove}
+use Rattle.views.proofs.Told.{asks-permit, asks-isolate, asks-query, asks-add, asks-remove}
 use borrow.Author.Needs.{needs}
 use Rattle.views.proofs.asked_by.Statement.{statement}
 use Rattle.views.proofs.asked_by.Tie as tie
@@ -21,8 +21,7 @@ returns-4 : tie.Need-returns-4
 returns-4 c = search asks-permit
 
 returns-5 : tie.Need-returns-5
-unfolding asksBy
-returns-5 c = cc
+returns-5 c = search asks-isolate
 
 returns-6 : tie.Need-returns-6
 returns-6 c = search asks-query
@@ -65,7 +64,6 @@ asked-by-spec =
     (λ c κs. search needs)
     (λ c. search needs)
     (λ c. search needs)
-    (λ c κs. search needs)
     (λ c. search needs)
     (λ c. search needs)
     (λ c. search needs)
