@@ -1,10 +1,11 @@
 -- The element stands in its table; what was stored is the model's change. Assumes nothing.
-use Prim.Native.Nat.{ℕ, _<_}
-use mathlib.Core.Bool.{Bool, true}
+use Prim.Native.Nat.{ℕ, _≤_, _<_}
+use mathlib.Core.Bool.{Bool, true, false}
 use mathlib.Core.List.{List}
 use mathlib.Core.Path.{_≡_, refl, sym, ap, ap₂, _∙_}
 use lib.Dec.{eqb}
 use Rattle.model.specs.declared.Answer.{Answer}
+use Rattle.model.specs.declared.Answer.the-variants.{BadCaller}
 use Rattle.model.specs.declared.Entry.{Entry}
 use Rattle.model.specs.declared.Permit.{Permit}
 use Rattle.model.specs.declared.Reply.{Reply}
@@ -13,7 +14,7 @@ use Rattle.model.specs.Changes.{unpermitted, revokedAll, applied}
 use Rattle.model.specs.Decision.{Decision, refuse}
 use Rattle.model.specs.declared.Caller.{Caller}
 use Rattle.model.specs.declared.Operation.{Operation}
-use Rattle.model.specs.Calls.{judge}
+use Rattle.model.specs.Calls.{enrols, judge}
 use Rattle.model.specs.Replies.{reply, replied, callOf}
 use Rattle.model.specs.SoundTest.{sound}
 use Rattle.model.specs.Tables.{spaceAt, withPermits, withEntries}
@@ -23,6 +24,7 @@ use Rattle.views.specs.declared.Asks.{Asks}
 use Rattle.views.specs.declared.View.{View}
 use Rattle.views.specs.Asks.{asksBy}
 use Rattle.views.specs.Views.{viewOf}
+use Rattle.views.proofs.Judged.{judged-bad}
 use Rattle.edits.specs.declared.Edit.{Edit}
 use Rattle.edits.specs.declared.Edit.the-variants as edit
 use Rattle.edits.specs.declared.Edited.{Edited}
@@ -74,6 +76,10 @@ module _ (v : View) (o : Operation) (x : Edited) where
   pub decided-refused : (a : Answer) → x ≡ record { answer = a; edit = edit.Nothing } → Judged (λ d. d ≡ refuse a) → Decided v o x
   unfolding Fits changeOf
   decided-refused a e h = rw e (record { fits = tt; decides = λ s c ok q. rw (h s c ok q) (record { answer = refl; change = refl }) })
+
+  -- check 2, of every call but ENROL
+  pub decided-bad : enrols o ≡ false → 8 ≤ v .place → x ≡ record { answer = BadCaller; edit = edit.Nothing } → Decided v o x
+  decided-bad plain g p = decided-refused BadCaller p (λ s c ok e. judged-bad s c o 0 v plain e g)
 
   pub decided-done : (a : Answer) (y : Edit) → x ≡ record { answer = a; edit = y } → Fits y → Judged (Decides (record { answer = a; edit = y })) → Decided v o x
   decided-done a y e f h = rw e (record { fits = f; decides = h })

@@ -1,4 +1,4 @@
-// PERMIT, QUERY, ADD and REMOVE. Each is decided on what it has seen of the tables, of any state that it was seen in; and of a
+// PERMIT, ISOLATE, QUERY, ADD and REMOVE. Each is decided on what it has seen of the tables, of any state that it was seen in; and of a
 // sound state that is handed over.
 ghost use mathlib.Core.Bool.{true};
 ghost use mathlib.Core.Path.{_≡_};
@@ -7,7 +7,7 @@ ghost use Rattle.lists.specs.Choice.{both};
 ghost use Rattle.model.specs.Calls.{judge};
 ghost use Rattle.model.specs.Replies.{replied, callOf};
 ghost use Rattle.model.specs.SoundTest.{sound};
-ghost use Rattle.model.specs.declared.Operation.the-variants.{Permit as PermitCall, Query, Add, Remove};
+ghost use Rattle.model.specs.declared.Operation.the-variants.{Permit as PermitCall, Isolate, Query, Add, Remove};
 ghost use Rattle.edits.specs.Edits.{Decided};
 use edits::Edit;
 use edits::Edited;
@@ -72,6 +72,30 @@ pub fn permit(s: State, caller: Caller, id: u32, guest: u32, right: Right) -> Re
     let operation = Operation::Permit { id, guest, right };
     let v = views::seen_in(s, views::asked_by(Call { caller, operation }));
     edits::carried(s, decide_permit(v, id, guest, right))
+}
+
+// All permits for the space go, and with them other guests' entries for it; the owner's stay.
+pub fn decide_isolate(v: View, id: u32) -> Edited
+    ensures { λ r. ⌜ Decided v (Isolate id) r ⌝ }
+{
+    let at = v.place;
+    if 8 <= at {
+        return edits::refused(Answer::BadCaller);
+    }
+    let x = v.space;
+    match lookup::owned_at(v.slot as usize, x, at as u32 + 1) {
+        Owned::Refused(refusal) => edits::refused(refusal),
+        Owned::At { slot } => edits::done(Edit::Close { slot }),
+    }
+}
+
+pub fn isolate(s: State, caller: Caller, id: u32) -> Reply
+    requires { ⌜ sound s ≡ true ⌝ }
+    ensures { λ r. ⌜ r ≡ replied s (judge s (callOf caller (Isolate id)) 0) ⌝ }
+{
+    let operation = Operation::Isolate { id };
+    let v = views::seen_in(s, views::asked_by(Call { caller, operation }));
+    edits::carried(s, decide_isolate(v, id))
 }
 
 fn is_guest(g: u32) -> bool

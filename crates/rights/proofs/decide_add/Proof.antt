@@ -1,12 +1,15 @@
 -- `rights::decide_add` meets its contract. Assumes nothing.
 use native.Mathlib.Omega.{arith}
-use Rattle.rights.proofs.Seen.{add-bad, add-none, add-not, add-full, add-done, free-byte}
+use Rattle.model.specs.Calls.{enrols}
+use Rattle.edits.proofs.Kept.{decided-bad}
+use Rattle.rights.proofs.Seen.{add-none, add-not, add-full, add-done, free-byte}
 use borrow.Author.Needs.{needs}
 use Rattle.rights.proofs.decide_add.Statement.{statement}
 use Rattle.rights.proofs.decide_add.Tie as tie
 
 returns : tie.Need-returns
-returns c = search add-bad
+unfolding enrols
+returns c = search decided-bad
 
 returns-2 : tie.Need-returns-2
 returns-2 c = search add-none

@@ -1,11 +1,14 @@
 -- `rights::decide_permit` meets its contract. Assumes nothing.
-use Rattle.rights.proofs.Seen.{permit-bad, permit-self, permit-unknown, permit-refused, permit-unshared, permit-done, slot-byte, permit-byte}
+use Rattle.model.specs.Calls.{enrols}
+use Rattle.edits.proofs.Kept.{decided-bad}
+use Rattle.rights.proofs.Seen.{permit-self, permit-unknown, permit-refused, permit-unshared, permit-done, slot-byte, permit-byte}
 use borrow.Author.Needs.{needs}
 use Rattle.rights.proofs.decide_permit.Statement.{statement}
 use Rattle.rights.proofs.decide_permit.Tie as tie
 
 returns : tie.Need-returns
-returns c = search permit-bad
+unfolding enrols
+returns c = search decided-bad
 
 returns-2 : tie.Need-returns-2
 returns-2 c = search permit-self

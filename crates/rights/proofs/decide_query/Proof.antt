@@ -1,11 +1,14 @@
 -- `rights::decide_query` meets its contract. Assumes nothing.
-use Rattle.rights.proofs.Seen.{query-bad, query-owner, query-name, query-none, query-not, query-done}
+use Rattle.model.specs.Calls.{enrols}
+use Rattle.edits.proofs.Kept.{decided-bad}
+use Rattle.rights.proofs.Seen.{query-owner, query-name, query-none, query-not, query-done}
 use borrow.Author.Needs.{needs}
 use Rattle.rights.proofs.decide_query.Statement.{statement}
 use Rattle.rights.proofs.decide_query.Tie as tie
 
 returns : tie.Need-returns
-returns c = search query-bad
+unfolding enrols
+returns c = search decided-bad
 
 returns-2 : tie.Need-returns-2
 returns-2 c = search query-owner

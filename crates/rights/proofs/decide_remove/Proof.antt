@@ -1,11 +1,14 @@
 -- `rights::decide_remove` meets its contract. Assumes nothing.
-use Rattle.rights.proofs.Seen.{remove-bad, remove-zero, remove-malformed, remove-unassigned, remove-done, number-low, entry-byte}
+use Rattle.model.specs.Calls.{enrols}
+use Rattle.edits.proofs.Kept.{decided-bad}
+use Rattle.rights.proofs.Seen.{remove-zero, remove-malformed, remove-unassigned, remove-done, number-low, entry-byte}
 use borrow.Author.Needs.{needs}
 use Rattle.rights.proofs.decide_remove.Statement.{statement}
 use Rattle.rights.proofs.decide_remove.Tie as tie
 
 returns : tie.Need-returns
-returns c = search remove-bad
+unfolding enrols
+returns c = search decided-bad
 
 returns-2 : tie.Need-returns-2
 returns-2 c = search remove-zero
