@@ -21,7 +21,7 @@ pub fn serve(s: State, scratch: &mut [u8], call: Call, buffer: &mut [u8]) -> Rep
         Operation::Create { name, pages } => creating::create(s, scratch, caller, name, pages),
         Operation::Destroy { id } => withdrawing::destroy(s, caller, id),
         Operation::Permit { id, guest, right } => rights::permit(s, caller, id, guest, right),
-        Operation::Isolate { id } => withdrawing::isolate(s, caller, id),
+        Operation::Isolate { id } => rights::isolate(s, caller, id),
         Operation::Query { owner, name } => Reply {
             answer: rights::query(s, caller, owner, name),
             state: s,

@@ -1,18 +1,22 @@
 -- The tables with one space withdrawn, as the model says: isolated, where its owner keeps its entries, or destroyed, where no guest
 -- does. Assumes nothing.
-use Prim.Native.Nat.{ℕ, _/_, _+_, _<_}
+use Prim.Native.Nat.{ℕ, _/_, _+_, _≤_}
 use mathlib.Core.Bool.{Bool, true, false, not}
 use mathlib.Core.List.{List}
 use mathlib.Core.Path.{_≡_, refl, sym, ap, fun-ext, _∙_}
+use native.Mathlib.Decide.{decLe}
 use native.Mathlib.Omega.{arith}
 use lib.Dec.{eqb}
 use lib.ListN.{length, set}
+use lib.Seq.{set-out}
 use borrow.Author.Tests.{eqb-true, ne-eqb}
-use Rattle.lists.specs.Choice.{both, either}
+use Rattle.lists.specs.Choice.{choose, both, either}
+use Rattle.lists.specs.Places.{mapPlaces}
 use Rattle.lists.proofs.Choice.{no!, both-when, both-comm, both-yes}
 use Rattle.lists.proofs.Maps.{map-alike, map-nothing, map-one}
 use Rattle.model.specs.declared.Change.the-variants.{DestroySpace, IsolateSpace}
 use Rattle.model.specs.declared.Entry.{Entry}
+use Rattle.model.specs.declared.Permit.{Permit}
 use Rattle.model.specs.declared.Space.{Space}
 use Rattle.model.specs.declared.State.{State}
 use Rattle.model.specs.Changes.{revoked, listOwner, vacated, unpermitted, loses, revokedAll, withdrawn, applied}
@@ -30,9 +34,13 @@ module _ (ss : List Space) (u : ℕ) where
   unfolding vacated
   none-vacated = sym (map-alike _ (λ v x. x) ss (λ v x b. no! _ _ refl) ∙ map-nothing ss)
 
-  one-vacated : u < length ss → set ss u noSpace ≡ vacated (eqb u) ss
+  one-vacated : set ss u noSpace ≡ vacated (eqb u) ss
   unfolding vacated
-  one-vacated h = sym (map-one ss u noSpace noSpace h)
+  one-vacated = go (decLe (length ss) u)
+    where
+      go : Dec (length ss ≤ u) → set ss u noSpace ≡ mapPlaces (λ v x. choose (eqb u v) noSpace x) ss
+      go (yes h) = set-out ss u noSpace h ∙ sym (map-alike _ (λ v x. x) ss (λ v x b. no! _ _ (ne-eqb u v (λ z. omega arith))) ∙ map-nothing ss)
+      go (no h) = sym (map-one ss u noSpace noSpace (omega arith))
 
   -- whose entries are lost: everyone's but the owner's, and everyone's
   owner-keeps : losesSlot (spaceAt ss u .owner) u ≡ loses ss (λ v. false) (eqb u)
@@ -52,7 +60,12 @@ module _ (s : State) (u : ℕ) where
   unfolding withdrawn
   isolated = rw (owner-keeps (s .spaces) u, ← none-vacated (s .spaces) u)
 
-  pub destroyed : u < length (s .spaces)
-      → withEntries (withPermits (withSpaces s (set (s .spaces) u noSpace)) (unpermitted (eqb u) (s .permits))) (revokedAll (losesSlot 0 u) (s .entries)) ≡ applied s (DestroySpace u)
+  pub destroyed :
+      withEntries (withPermits (withSpaces s (set (s .spaces) u noSpace)) (unpermitted (eqb u) (s .permits))) (revokedAll (losesSlot 0 u) (s .entries)) ≡ applied s (DestroySpace u)
   unfolding withdrawn
-  destroyed h = rw (all-revoked (s .spaces) u (s .entries), one-vacated (s .spaces) u h)
+  destroyed = rw (all-revoked (s .spaces) u (s .entries), one-vacated (s .spaces) u)
+
+  -- as the code has made it
+  pub destroyed-by : (t : State) (x : Space) (ps : List Permit) (es : List Entry) → x ≡ noSpace → ps ≡ unpermitted (eqb u) (s .permits) → es ≡ revokedAll (losesSlot 0 u) (s .entries)
+      → t ≡ withEntries (withPermits (withSpaces s (set (s .spaces) u x)) ps) es → t ≡ applied s (DestroySpace u)
+  destroyed-by t x ps es a b c e = e ∙ rw (a, b, c) destroyed

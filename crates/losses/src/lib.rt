@@ -12,17 +12,24 @@ use model::Permit;
 use model::Space;
 use model::Standing;
 
+// An empty slot.
+pub fn no_space() -> Space
+    ensures { λ r. ⌜ r ≡ noSpace ⌝ }
+{
+    Space {
+        id: 0,
+        owner: 0,
+        name: 0,
+        first: 0,
+        pages: 0,
+    }
+}
+
 pub fn space_unless(x: Space, gone: bool) -> Space
     ensures { λ r. ⌜ r ≡ choose gone noSpace x ⌝ }
 {
     if gone {
-        return Space {
-            id: 0,
-            owner: 0,
-            name: 0,
-            first: 0,
-            pages: 0,
-        };
+        return no_space();
     }
     x
 }

@@ -22,7 +22,7 @@ fn reading_round(s: State, scratch: &[u8], buffer: &mut [u8], call: u32, i: u32)
         return turn::tasted(r, i);
     }
     if call == turn::ISOLATE {
-        let r = withdrawing::isolate(s, who, turn::own(i));
+        let r = rights::isolate(s, who, turn::own(i));
         return turn::tasted(r, i);
     }
     if call == turn::QUERY {

@@ -87,7 +87,7 @@ pub fn isolate(s: State, scratch: &[u8], caller: Caller, id: u32) -> Reply
     if !ready::is_ready(s, scratch.len()) {
         return unsound(s);
     }
-    withdrawing::isolate(s, caller, id)
+    rights::isolate(s, caller, id)
 }
 
 // QUERY changes nothing: the state is not returned.

@@ -3,34 +3,29 @@ use Prim.Native.Nat.{ℕ, _<_}
 use mathlib.Core.Bool.{Bool, true, false, not}
 use mathlib.Core.List.{List}
 use mathlib.Core.Path.{_≡_, refl, sym, ap, _∙_}
-use native.Mathlib.Omega.{arith}
 use lib.Dec.{eqb}
-use Rattle.lists.specs.Choice.{choose}
 use Rattle.model.specs.declared.Answer.the-variants.{Done}
 use Rattle.model.specs.declared.Caller.{Caller}
-use Rattle.model.specs.declared.Change.the-variants.{DestroySpace, IsolateSpace}
+use Rattle.model.specs.declared.Change.the-variants.{DestroySpace}
 use Rattle.model.specs.declared.Entry.{Entry}
-use Rattle.model.specs.declared.Operation.the-variants.{Destroy, Isolate, Reset}
+use Rattle.model.specs.declared.Operation.the-variants.{Destroy, Reset}
 use Rattle.model.specs.declared.Permit.{Permit}
 use Rattle.model.specs.declared.Space.{Space}
 use Rattle.model.specs.declared.State.{State}
 use Rattle.model.specs.Arguments.{arguments, checkAll}
-use Rattle.model.specs.Calls.{judge, enrols, perform, destroy, isolate, reset}
+use Rattle.model.specs.Calls.{judge, enrols, perform, destroy, reset}
 use Rattle.model.specs.Changes.{vacated, unpermitted, applied}
 use Rattle.model.specs.Leaves.{callerPlace, flag}
 use Rattle.model.specs.Names.{baseName}
 use Rattle.model.specs.Replies.{reply, replied, callOf}
 use Rattle.model.specs.Searches.{slotOf, isOwned, isData}
-use Rattle.model.specs.SoundTest.{sound}
 use Rattle.model.specs.Tables.{spaceAt, withSpaces, withPermits, withEntries}
-use Rattle.model.proofs.Rules.{go-on, place-yes, place-is}
-use Rattle.model.proofs.Searches.{enrolled-guest}
+use Rattle.model.proofs.Rules.{go-on}
 use Rattle.lookup.specs.declared.Owned.{Owned}
 use Rattle.lookup.specs.declared.Owned.the-variants.{At}
 use Rattle.lookup.specs.Owned.{ownedSpace}
-use Rattle.lookup.proofs.Owning.{owning-yes, owned-slot, owned-low, owned-owner}
+use Rattle.lookup.proofs.Owning.{owning-yes, owned-slot}
 use Rattle.lookup.proofs.Rules.{good-caller}
-use Rattle.withdrawing.specs.One.{OneSlot}
 use Rattle.withdrawing.specs.Sets.{IsSet, slotsOf, entriesReset}
 use Rattle.withdrawing.proofs.Resetting.{all-reset}
 
@@ -39,30 +34,13 @@ pub primary-found : (ss : List Space) (g i u n : ℕ) (o : Owned) (b : Bool) →
 primary-found ss g i u n o b is to t y = rw (← owned-slot ss g i o u is to) (ap not (sym t ∙ y))
 
 module _ (s : State) (c : Caller) (at : ℕ) (e : at ≡ callerPlace (s .guests) (c .guest)) (low : at < 8) where
-  module _ (i u : ℕ) (o : Owned) (is : o ≡ ownedSpace (s .spaces) (c .guest) i) (to : o ≡ At u) where
-    slot : u ≡ slotOf (s .spaces) i
-    slot = owned-slot (s .spaces) (c .guest) i o u is to
-
-    pub one-asked : sound s ≡ true → OneSlot s at u
-    one-asked ok =
-        let g = enrolled-guest (s .guests) (c .guest) (place-yes at (s .guests) (c .guest) e low) in
-        record {
-          ok = ok;
-          low = owned-low (s .spaces) (c .guest) i o u is to;
-          inside = low;
-          owner = owned-owner (s .spaces) (c .guest) i o u is to ∙ omega (arith, place-is at (s .guests) (c .guest) e low);
-        }
-
-    pub destroy-done : (b : Bool) (t : State) → b ≡ eqb (spaceAt (s .spaces) u .name) baseName → b ≡ false
-        → t ≡ applied s (choose true (DestroySpace u) (IsolateSpace u)) → reply (Done 0) t ≡ replied s (judge s (callOf c (Destroy i)) 0)
-    unfolding enrols arguments checkAll perform destroy replied choose
-    destroy-done b t z n w =
-        good-caller _ s c (Destroy i) 0 at refl e low
-        (owning-yes s (c .guest) i o is _ _ u to (rw (← slot) (go-on _ s _ _ _ (ap not (sym z ∙ n)) (ap (reply (Done 0)) w))))
-
-    pub isolate-done : (t : State) → t ≡ applied s (choose false (DestroySpace u) (IsolateSpace u)) → reply (Done 0) t ≡ replied s (judge s (callOf c (Isolate i)) 0)
-    unfolding enrols arguments checkAll perform isolate replied choose
-    isolate-done t w = good-caller _ s c (Isolate i) 0 at refl e low (owning-yes s (c .guest) i o is _ _ u to (rw (← slot) (ap (reply (Done 0)) w)))
+  pub destroy-done : (i u : ℕ) (o : Owned) (b : Bool) (t : State) → o ≡ ownedSpace (s .spaces) (c .guest) i → o ≡ At u → b ≡ eqb (spaceAt (s .spaces) u .name) baseName → b ≡ false
+      → t ≡ applied s (DestroySpace u) → reply (Done 0) t ≡ replied s (judge s (callOf c (Destroy i)) 0)
+  unfolding enrols arguments checkAll perform destroy replied
+  destroy-done i u o b t is to z n w =
+      good-caller _ s c (Destroy i) 0 at refl e low
+      (owning-yes s (c .guest) i o is _ _ u to
+      (rw (← owned-slot (s .spaces) (c .guest) i o u is to) (go-on _ s _ _ _ (ap not (sym z ∙ n)) (ap (reply (Done 0)) w))))
 
   pub reset-done : (l : List Bool) (x : List Space) (y : List Permit) (z : List Entry) → IsSet (slotsOf (isOwned (c .guest)) (s .spaces)) l
       → x ≡ vacated (slotsOf (isData (c .guest)) (s .spaces)) (s .spaces) → y ≡ unpermitted (flag l) (s .permits) → z ≡ entriesReset (c .guest) (flag l) (s .entries)

@@ -1,3 +1,2 @@
--- What the tables and the loops of this crate are proved equal to, and what they ask.
-pub mod One
+-- What the tables and the loops of this crate are proved equal to.
 pub mod Sets

@@ -1,7 +1,7 @@
-// DESTROY, ISOLATE and RESET. The first two change what belongs to one slot, RESET what belongs to a guest. The slots of a guest's
-// spaces are a table of Booleans. Its last place is no slot and false: an entry that names no slot looks there, so that every
+// DESTROY and RESET. The first changes what belongs to one slot, the second what belongs to a guest. The slots of a guest's spaces
+// are a table of Booleans. Its last place is no slot and false: an entry that names no slot looks there, so that every
 // entry is looked up alike.
-ghost use Prim.Native.Nat.{_≤_, _<_};
+ghost use Prim.Native.Nat.{_<_};
 ghost use mathlib.Core.Bool.{true, false};
 ghost use mathlib.Core.Path.{_≡_};
 ghost use Rattle.lists.specs.Choice.{choose};
@@ -12,9 +12,8 @@ ghost use Rattle.model.specs.Replies.{replied, callOf};
 ghost use Rattle.model.specs.Searches.{isOwned, isData};
 ghost use Rattle.model.specs.SoundTest.{sound};
 ghost use Rattle.model.specs.Tables.{noSpace};
-ghost use Rattle.model.specs.declared.Change.the-variants.{DestroySpace, IsolateSpace};
-ghost use Rattle.model.specs.declared.Operation.the-variants.{Destroy, Isolate, Reset};
-ghost use Rattle.withdrawing.specs.One.{OneSlot};
+ghost use Rattle.model.specs.declared.Change.the-variants.{DestroySpace};
+ghost use Rattle.model.specs.declared.Operation.the-variants.{Destroy, Reset};
 ghost use Rattle.withdrawing.specs.Sets.{IsSet, slotsOf, entriesReset};
 use lookup::Owned;
 use model::Answer;
@@ -25,38 +24,18 @@ use model::Reply;
 use model::Space;
 use model::State;
 
-// The place of the list that keeps its entries for a space: the owner's, and of a space that is destroyed none.
-fn kept_list(owner: usize, gone: bool) -> usize
-    requires { ⌜ owner < 8 ⌝ }
-    ensures { λ r. ⌜ (r ≡ choose gone 8 owner) × (r ≤ 8) ⌝ }
+// The tables without the space in a slot: the slot is empty, the space's permits are gone, and no guest keeps an entry for it.
+fn destroy_at(mut s: State, slot: u8) -> State
+    requires { ⌜ slot < 32 ⌝ }
+    ensures { λ r. ⌜ r ≡ applied s (DestroySpace slot) ⌝ }
 {
-    if gone {
-        return 8;
-    }
-    owner
-}
-
-// The change over one slot, whose space is destroyed or isolated: its eight permits go, and the lists below and above the one that
-// is kept lose their entries for it.
-fn withdraw_one(mut s: State, owner: usize, slot: u8, gone: bool) -> State
-    requires { ⌜ OneSlot s owner slot ⌝ }
-    ensures { λ r. ⌜ r ≡ applied s (choose gone (DestroySpace slot) (IsolateSpace slot)) ⌝ }
-{
-    let u = slot as usize;
-    let x = s.spaces[u];
-    s.spaces[u] = losses::space_unless(x, gone);
-    for k in u * 8..u * 8 + 8 {
-        s.permits[k] = losses::no_permit();
-    }
-    let kept = kept_list(owner, gone);
-    for k in 0..kept * 30 {
-        let e = s.entries[k];
-        s.entries[k] = losses::entry_without(e, slot);
-    }
-    for k in kept * 30 + 30..240 {
-        let e = s.entries[k];
-        s.entries[k] = losses::entry_without(e, slot);
-    }
+    let permits = s.permits;
+    let entries = s.entries;
+    let permits_after = closing::permits_without(permits, slot);
+    let entries_after = closing::entries_without(entries, 0, slot);
+    s.spaces[slot as usize] = losses::no_space();
+    s.permits = permits_after;
+    s.entries = entries_after;
     s
 }
 
@@ -92,36 +71,7 @@ pub fn destroy(s: State, caller: Caller, id: u32) -> Reply
     }
     Reply {
         answer: Answer::Done { value: 0 },
-        state: withdraw_one(s, at, slot, true),
-    }
-}
-
-// All permits for the space go, and with them other guests' entries for it; the owner's stay.
-pub fn isolate(s: State, caller: Caller, id: u32) -> Reply
-    requires { ⌜ sound s ≡ true ⌝ }
-    ensures { λ r. ⌜ r ≡ replied s (judge s (callOf caller (Isolate id)) 0) ⌝ }
-{
-    let guests = s.guests;
-    let at = lookup::caller_place(guests, caller.guest);
-    if 8 <= at {
-        return Reply {
-            answer: Answer::BadCaller,
-            state: s,
-        };
-    }
-    let spaces = s.spaces;
-    let slot = match lookup::owned_space(spaces, caller.guest, id) {
-        Owned::Refused(refusal) => {
-            return Reply {
-                answer: refusal,
-                state: s,
-            };
-        }
-        Owned::At { slot } => slot,
-    };
-    Reply {
-        answer: Answer::Done { value: 0 },
-        state: withdraw_one(s, at, slot, false),
+        state: destroy_at(s, slot),
     }
 }
 

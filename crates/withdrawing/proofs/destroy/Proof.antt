@@ -5,7 +5,7 @@ use Rattle.model.specs.Calls.{enrols, perform, destroy}
 use Rattle.model.proofs.Rules.{checks}
 use Rattle.lookup.proofs.Owning.{settling, owned-low}
 use Rattle.lookup.proofs.Rules.{bad-caller, good-caller}
-use Rattle.withdrawing.proofs.Done.{primary-found, one-asked, destroy-done}
+use Rattle.withdrawing.proofs.Done.{primary-found, destroy-done}
 use Rattle.withdrawing.proofs.destroy.Statement.{statement}
 use Rattle.withdrawing.proofs.destroy.Tie as tie
 
@@ -24,8 +24,8 @@ returns-3 : tie.Need-returns-3
 unfolding enrols arguments checkAll perform destroy
 returns-3 c = search (good-caller, settling, checks, primary-found) depth 8
 
-withdraw-one-requires : tie.Need-withdraw-one-requires
-withdraw-one-requires c κs = search one-asked
+destroy-at-requires : tie.Need-destroy-at-requires
+destroy-at-requires c κs = search owned-low
 
 returns-4 : tie.Need-returns-4
 returns-4 c = search destroy-done
@@ -45,5 +45,5 @@ destroy-spec =
     array-copy-out-x
     (λ c κs. search needs)
     returns-3
-    withdraw-one-requires
+    destroy-at-requires
     returns-4)

@@ -1,0 +1,19 @@
+-- `withdrawing::destroy_at` meets its contract. Assumes nothing.
+use Rattle.closing.proofs.Withdrawn.{destroyed-by}
+use borrow.Author.Needs.{needs}
+use Rattle.withdrawing.proofs.destroy_at.Statement.{statement}
+use Rattle.withdrawing.proofs.destroy_at.Tie as tie
+
+returns : tie.Need-returns
+returns c = search destroyed-by
+
+pub destroy-at-spec : {M : Type 1} → statement M
+destroy-at-spec =
+    tie.close
+    (tie.spec
+    (λ c κs. search needs)
+    (λ c κs. search needs)
+    (λ c κs. search needs)
+    (λ c. search needs)
+    (λ c. search needs)
+    returns)
