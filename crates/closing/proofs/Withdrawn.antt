@@ -21,7 +21,7 @@ use Rattle.model.specs.declared.Space.{Space}
 use Rattle.model.specs.declared.State.{State}
 use Rattle.model.specs.Changes.{revoked, listOwner, vacated, unpermitted, loses, revokedAll, withdrawn, applied}
 use Rattle.model.specs.Tables.{noSpace, spaceAt, withSpaces, withPermits, withEntries}
-use Rattle.closing.specs.Slot.{losesSlot}
+use Rattle.closing.specs.Slot.{losesSlot, slotClosed}
 
 absorbed : (a b : Bool) → either a (both a b) ≡ a
 unfolding either both
@@ -56,16 +56,15 @@ module _ (ss : List Space) (u : ℕ) where
   all-revoked es = map-alike _ _ es (λ j e b. ap (λ t. revoked t e) (all-lose (j / 30)))
 
 module _ (s : State) (u : ℕ) where
-  pub isolated : withEntries (withPermits s (unpermitted (eqb u) (s .permits))) (revokedAll (losesSlot (spaceAt (s .spaces) u .owner) u) (s .entries)) ≡ applied s (IsolateSpace u)
+  pub isolated : slotClosed s (spaceAt (s .spaces) u .owner) u ≡ applied s (IsolateSpace u)
   unfolding withdrawn
   isolated = rw (owner-keeps (s .spaces) u, ← none-vacated (s .spaces) u)
 
-  pub destroyed :
-      withEntries (withPermits (withSpaces s (set (s .spaces) u noSpace)) (unpermitted (eqb u) (s .permits))) (revokedAll (losesSlot 0 u) (s .entries)) ≡ applied s (DestroySpace u)
+  pub destroyed : slotClosed (withSpaces s (set (s .spaces) u noSpace)) 0 u ≡ applied s (DestroySpace u)
   unfolding withdrawn
   destroyed = rw (all-revoked (s .spaces) u (s .entries), one-vacated (s .spaces) u)
 
-  -- as the code has made it
+  -- for search: as the code has made it
   pub destroyed-by : (t : State) (x : Space) (ps : List Permit) (es : List Entry) → x ≡ noSpace → ps ≡ unpermitted (eqb u) (s .permits) → es ≡ revokedAll (losesSlot 0 u) (s .entries)
       → t ≡ withEntries (withPermits (withSpaces s (set (s .spaces) u x)) ps) es → t ≡ applied s (DestroySpace u)
   destroyed-by t x ps es a b c e = e ∙ rw (a, b, c) destroyed

@@ -18,7 +18,7 @@ use Rattle.model.specs.Calls.{enrols, judge}
 use Rattle.model.specs.Replies.{reply, replied, callOf}
 use Rattle.model.specs.SoundTest.{sound}
 use Rattle.model.specs.Tables.{spaceAt, withPermits, withEntries}
-use Rattle.closing.specs.Slot.{losesSlot}
+use Rattle.closing.specs.Slot.{losesSlot, slotClosed}
 use Rattle.closing.proofs.Withdrawn.{isolated}
 use Rattle.views.specs.declared.Asks.{Asks}
 use Rattle.views.specs.declared.View.{View}
@@ -55,14 +55,14 @@ pub ruleset insides = (entry-inside, cpu-inside, register-inside, mode-inside, s
 
 -- one space closed: its permits go, and every guest's entries for it but its owner's
 module _ (s : State) (u : ℕ) where
-  pub closed : withEntries (withPermits s (unpermitted (eqb u) (s .permits))) (revokedAll (losesSlot (spaceAt (s .spaces) u .owner) u) (s .entries)) ≡ applied s (changeOf (edit.Close u))
+  pub closed : slotClosed s (spaceAt (s .spaces) u .owner) u ≡ applied s (changeOf (edit.Close u))
   unfolding changeOf
   closed = isolated s u
 
-  -- as the code has made it
-  pub closed-by : (t : State) (ps : List Permit) (es : List Entry) → ps ≡ unpermitted (eqb u) (s .permits) → es ≡ revokedAll (losesSlot (spaceAt (s .spaces) u .owner) u) (s .entries)
+  -- for search: as the code has made it
+  pub closed-by : (t : State) (g : ℕ) (ps : List Permit) (es : List Entry) → g ≡ spaceAt (s .spaces) u .owner → ps ≡ unpermitted (eqb u) (s .permits) → es ≡ revokedAll (losesSlot g u) (s .entries)
       → t ≡ withEntries (withPermits s ps) es → t ≡ applied s (changeOf (edit.Close u))
-  closed-by t ps es p q e = e ∙ ap₂ (λ x y. withEntries (withPermits s x) y) p q ∙ closed
+  closed-by t g ps es q a b e = e ∙ rw (a, b, q) closed
 
 -- what the code has made by an edit that it has found to be y
 pub carried-by : (s t : State) (e : Edited) (y : Edit) → e .edit ≡ y → t ≡ applied s (changeOf y) → reply (e .answer) t ≡ reply (e .answer) (applied s (changeOf (e .edit)))

@@ -84,11 +84,9 @@ pub fn carried(mut s: State, e: Edited) -> Reply
         Edit::Close { slot } => {
             let owner = s.spaces[slot as usize].owner;
             let permits = s.permits;
+            s.permits = closing::permits_without(permits, slot);
             let entries = s.entries;
-            let permits_after = closing::permits_without(permits, slot);
-            let entries_after = closing::entries_without(entries, owner, slot);
-            s.permits = permits_after;
-            s.entries = entries_after;
+            s.entries = closing::entries_without(entries, owner, slot);
             Reply { answer, state: s }
         }
     }

@@ -29,13 +29,11 @@ fn destroy_at(mut s: State, slot: u8) -> State
     requires { ⌜ slot < 32 ⌝ }
     ensures { λ r. ⌜ r ≡ applied s (DestroySpace slot) ⌝ }
 {
-    let permits = s.permits;
-    let entries = s.entries;
-    let permits_after = closing::permits_without(permits, slot);
-    let entries_after = closing::entries_without(entries, 0, slot);
     s.spaces[slot as usize] = losses::no_space();
-    s.permits = permits_after;
-    s.entries = entries_after;
+    let permits = s.permits;
+    s.permits = closing::permits_without(permits, slot);
+    let entries = s.entries;
+    s.entries = closing::entries_without(entries, 0, slot);
     s
 }
 
