@@ -19,7 +19,7 @@ use Rattle.model.specs.declared.Entry.{Entry}
 use Rattle.model.specs.declared.Permit.{Permit}
 use Rattle.model.specs.declared.Space.{Space}
 use Rattle.model.specs.declared.State.{State}
-use Rattle.model.specs.Changes.{revoked, listOwner, vacated, unpermitted, loses, revokedAll, withdrawn, applied}
+use Rattle.model.specs.Changes.{revoked, vacated, unpermitted, loses, revokedAll, withdrawn, applied}
 use Rattle.model.specs.Tables.{noSpace, spaceAt, withSpaces, withPermits, withEntries}
 use Rattle.closing.specs.Slot.{losesSlot, slotClosed}
 
