@@ -1,10 +1,11 @@
 -- What two runs have in common over the whole list, from `AllSameOutside` alone and not from how it was proved. Each law rests on
--- its own part of the claim, so that none can be left out of it: `answer` and `buffer`, `number` and `value`, `tables`, `bytes`.
--- Assumes nothing.
-use Prim.Native.Nat.{ℕ}
+-- its own part of the claim, so that none can be left out of it: `answer` and `buffer`, `number` and `value`, `tables`, `bytes`, and
+-- an outcome for each call. Assumes nothing.
+use Prim.Native.Nat.{ℕ, suc}
 use mathlib.Core.List.{List, [], _∷_}
 use mathlib.Core.Path.{_≡_, refl, sym, ap, ap₂, _∙_}
 use native.Mathlib.Decide.{ℕ-discrete}
+use lib.ListN.{length}
 use borrow.Author.Tests.{eq-eqb, ne-eqb}
 use Rattle.lists.proofs.Choice.{yes!, no! }
 use Rattle.model.specs.declared.Call.{Call}
@@ -64,3 +65,13 @@ module _ (x : ℕ) where
   same-bytes [] (j ∷ js) m n v a e = absurd v
   same-bytes (i ∷ is) [] m n v a e = absurd v
   same-bytes (i ∷ is) (j ∷ js) m n v a e = same-bytes is js (step m i .machine) (step n j .machine) (v .1) (a .1) (a .0 .bytes)
+
+  -- each run has one outcome for each call
+  pub same-count : (is : List Issue) (os ps : List Outcome) (m : Machine) → AllSameOutside x m is os ps → (length os ≡ length is) × (length ps ≡ length is)
+  unfolding AllSameOutside
+  same-count [] [] [] m a = (refl, refl)
+  same-count [] [] (p ∷ ps) m a = absurd a
+  same-count [] (o ∷ os) ps m a = absurd a
+  same-count (i ∷ is) [] ps m a = absurd a
+  same-count (i ∷ is) (o ∷ os) [] m a = absurd a
+  same-count (i ∷ is) (o ∷ os) (p ∷ ps) m a = let r = same-count is os ps (o .machine) (a .1) in (ap suc (r .0), ap suc (r .1))

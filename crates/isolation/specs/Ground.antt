@@ -1,7 +1,6 @@
--- "And in every list from a fresh state, each fetch or store that reaches a space is by its owner, or by a guest through an
--- entry that it added after the owner permitted it that much and has not given up since, with no isolate of that space and
--- no reset by the owner answered 0 since that permit." The ground that the record has for a fetch or store, in the words of
--- "Demand 3, word by word". A record has its latest call first.
+-- Demand 3's second half: in every list from a fresh state, each fetch or store that reaches a space has a ground in the calls
+-- before it. It is by the owner, or through an entry that the guest added after the owner permitted it that much. The ground that
+-- the record has for a fetch or store, in the words of "Demand 3, word by word". A record has its latest call first.
 use Prim.Native.Nat.{ℕ, _<_}
 use mathlib.Core.Bool.{true}
 use mathlib.Core.List.{List, [], _∷_, _++_}

@@ -143,6 +143,6 @@ unfoldable pub loadIn : List Event → Caller → (register : ℕ) → ℕ
 loadIn [] c r = 0
 loadIn (e ∷ h) c r = loadBy (deed e) c r (loadIn h c r)
 
--- "and 0 in primary mode and for register 0"
+-- "In primary mode, and for register 0 in either mode, the token used is 0 whatever was loaded."
 unfoldable pub usedIn : List Event → Caller → (register : ℕ) → ℕ
 usedIn h c r = choose (both (modeIn h c) (not (eqb r 0))) (loadIn h c r) 0

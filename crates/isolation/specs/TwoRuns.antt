@@ -1,6 +1,6 @@
--- "Isolation, over whole lists of calls": two runs of one list, which differ in the bytes of one space and in the data of
--- stores that reach it. First the general claim, for a set of changed spaces that may grow from call to call; then the
--- paper's own, for one space.
+-- Demand 3's first half, "one claim about the whole list": two runs of it, which differ in the bytes of one space and in the data
+-- of stores that reach it. First the general claim, for a set of changed spaces that may grow from call to call; then the paper's
+-- own, for one space.
 use Prim.Native.Nat.{ℕ, _<_}
 use mathlib.Core.Bool.{Bool, true, false}
 use mathlib.Core.List.{List, [], _∷_}
@@ -64,9 +64,9 @@ SameRuns m₁ m₂ (t ∷ ts) = SameCall (t .changed) m₁ m₂ (t .first) (t .s
 abbrev pub TwoRuns : Type 0
 TwoRuns = (X : ℕ → Bool) (ts : List Turn) (m₁ m₂ : Machine) → Ready m₁ → Alike X m₁ m₂ → Varied X m₁ ts → SameRuns m₁ m₂ ts
 
--- The paper's own claim. "Take any sound state with its scratch, any live space in it, any list of calls, refused ones
--- included, and run the list twice; the runs may differ in the bytes first held in that space and in the data of stores that
--- reach it (lengths kept), and in nothing else."
+-- The paper's own claim. It is of any sound state with its scratch, any live space in it, and any list of calls, refused ones
+-- included, run twice. What may differ are the bytes first held in that space and, at the same length, the data of stores: "Data
+-- may differ in stores that reach it in the first run."
 
 -- scratch is equal at every byte outside that space, free frames included
 pub record OutsideSpace (s : State) (u : ℕ) (m₁ m₂ : List ℕ) : Type 0 where
