@@ -11,7 +11,7 @@ static unsigned long chance(void)
 {
     if (state == 0) {
         const char *run = getenv("RUN");
-        state = run ? strtoul(run, 0, 10) * 2 + 1 : 1;
+        state = (run ? strtoul(run, 0, 10) : 0) * 0x9E3779B97F4A7C15ul + 1;
     }
     state = state * 6364136223846793005ul + 1442695040888963407ul;
     return state >> 33;

@@ -45,6 +45,13 @@ abbrev pub failureOf : Moved → ℕ
 failureOf (moved.To p) = 0
 failureOf (moved.Failed e) = e
 
+-- whether a read was interrupted, and is made again
+abbrev pub interrupted : Got → Bool
+interrupted (got.Bytes n) = false
+interrupted got.End = false
+interrupted got.Interrupted = true
+interrupted (got.Failed e) = false
+
 -- how many bytes a read brought
 unfoldable pub bytesGot : Got → ℕ
 bytesGot (got.Bytes n) = n

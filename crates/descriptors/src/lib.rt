@@ -5,7 +5,7 @@ ghost use mathlib.Core.Path.{_≡_};
 ghost use lib.Dec.{eqb};
 ghost use lib.ListN.{length};
 ghost use Rattle.lists.specs.Places.{oneIf};
-ghost use Rattle.descriptors.specs.Came.{belowZero, errorOf, gotOf, movedOf, bytesGot, placeOf, failureOf, newlines};
+ghost use Rattle.descriptors.specs.Came.{belowZero, errorOf, gotOf, movedOf, interrupted, bytesGot, placeOf, failureOf, newlines};
 
 // What a read came to.
 pub enum Got {
@@ -85,11 +85,15 @@ fn read_once(fd: i32, room: &mut [u8]) -> Got
     read_came(answer, os::errno(), room)
 }
 
-fn is_interrupted(got: Got) -> bool {
-    if let Got::Interrupted = got {
-        true
-    } else {
-        false
+// Whether a read is made again.
+fn is_interrupted(got: Got) -> bool
+    ensures { λ r. ⌜ r ≡ interrupted got ⌝ }
+{
+    match got {
+        Got::Bytes { count: _ } => false,
+        Got::End => false,
+        Got::Interrupted => true,
+        Got::Failed { error: _ } => false,
     }
 }
 
