@@ -65,6 +65,10 @@ module _ (s : State) (u : ℕ) where
   destroyed = rw (all-revoked (s .spaces) u (s .entries), one-vacated (s .spaces) u)
 
   -- for search: as the code has made it
+  pub isolated-by : (t : State) (g : ℕ) (ps : List Permit) (es : List Entry) → g ≡ spaceAt (s .spaces) u .owner → ps ≡ unpermitted (eqb u) (s .permits) → es ≡ revokedAll (losesSlot g u) (s .entries)
+      → t ≡ withEntries (withPermits s ps) es → t ≡ applied s (IsolateSpace u)
+  isolated-by t g ps es q a b e = e ∙ rw (a, b, q) isolated
+
   pub destroyed-by : (t : State) (x : Space) (ps : List Permit) (es : List Entry) → x ≡ noSpace → ps ≡ unpermitted (eqb u) (s .permits) → es ≡ revokedAll (losesSlot 0 u) (s .entries)
       → t ≡ withEntries (withPermits (withSpaces s (set (s .spaces) u x)) ps) es → t ≡ applied s (DestroySpace u)
   destroyed-by t x ps es a b c e = e ∙ rw (a, b, c) destroyed

@@ -1,25 +1,19 @@
 -- The element stands in its table; what was stored is the model's change. Assumes nothing.
 use Prim.Native.Nat.{ℕ, _≤_, _<_}
 use mathlib.Core.Bool.{Bool, true, false}
-use mathlib.Core.List.{List}
 use mathlib.Core.Path.{_≡_, refl, sym, ap, ap₂, _∙_}
-use lib.Dec.{eqb}
 use Rattle.model.specs.declared.Answer.{Answer}
 use Rattle.model.specs.declared.Answer.the-variants.{BadCaller}
 use Rattle.model.specs.declared.Entry.{Entry}
-use Rattle.model.specs.declared.Permit.{Permit}
 use Rattle.model.specs.declared.Reply.{Reply}
 use Rattle.model.specs.declared.State.{State}
-use Rattle.model.specs.Changes.{unpermitted, revokedAll, applied}
+use Rattle.model.specs.Changes.{applied}
 use Rattle.model.specs.Decision.{Decision, refuse}
 use Rattle.model.specs.declared.Caller.{Caller}
 use Rattle.model.specs.declared.Operation.{Operation}
 use Rattle.model.specs.Calls.{enrols, judge}
 use Rattle.model.specs.Replies.{reply, replied, callOf}
 use Rattle.model.specs.SoundTest.{sound}
-use Rattle.model.specs.Tables.{spaceAt, withPermits, withEntries}
-use Rattle.closing.specs.Slot.{losesSlot, slotClosed}
-use Rattle.closing.proofs.Withdrawn.{isolated}
 use Rattle.views.specs.declared.Asks.{Asks}
 use Rattle.views.specs.declared.View.{View}
 use Rattle.views.specs.Asks.{asksBy}
@@ -47,22 +41,7 @@ module _ (x : Edit) (f : Fits x) where
   unfolding Fits
   mode-inside k m e = rw e at f
 
-  pub slot-inside : (u : ℕ) → x ≡ edit.Close u → u < 32
-  unfolding Fits
-  slot-inside u e = rw e at f
-
-pub ruleset insides = (entry-inside, cpu-inside, register-inside, mode-inside, slot-inside)
-
--- one space closed: its permits go, and every guest's entries for it but its owner's
-module _ (s : State) (u : ℕ) where
-  pub closed : slotClosed s (spaceAt (s .spaces) u .owner) u ≡ applied s (changeOf (edit.Close u))
-  unfolding changeOf
-  closed = isolated s u
-
-  -- for search: as the code has made it
-  pub closed-by : (t : State) (g : ℕ) (ps : List Permit) (es : List Entry) → g ≡ spaceAt (s .spaces) u .owner → ps ≡ unpermitted (eqb u) (s .permits) → es ≡ revokedAll (losesSlot g u) (s .entries)
-      → t ≡ withEntries (withPermits s ps) es → t ≡ applied s (changeOf (edit.Close u))
-  closed-by t g ps es q a b e = e ∙ rw (a, b, q) closed
+pub ruleset insides = (entry-inside, cpu-inside, register-inside, mode-inside)
 
 -- what the code has made by an edit that it has found to be y
 pub carried-by : (s t : State) (e : Edited) (y : Edit) → e .edit ≡ y → t ≡ applied s (changeOf y) → reply (e .answer) t ≡ reply (e .answer) (applied s (changeOf (e .edit)))

@@ -1,10 +1,10 @@
--- One element stored, or one space closed, as a change of the model; and what a call's code has decided of one.
+-- One element stored, as a change of the model, and what a call's code has decided of one.
 use Prim.Native.Nat.{_<_}
 use mathlib.Core.Bool.{true}
 use mathlib.Core.Path.{_≡_}
 use Rattle.model.specs.declared.Caller.{Caller}
 use Rattle.model.specs.declared.Change.{Change}
-use Rattle.model.specs.declared.Change.the-variants.{Keep, SetPermit, SetEntry, SetRegister, SetMode, IsolateSpace}
+use Rattle.model.specs.declared.Change.the-variants.{Keep, SetPermit, SetEntry, SetRegister, SetMode}
 use Rattle.model.specs.declared.Operation.{Operation}
 use Rattle.model.specs.declared.State.{State}
 use Rattle.model.specs.Calls.{judge}
@@ -15,7 +15,7 @@ use Rattle.views.specs.declared.View.{View}
 use Rattle.views.specs.Asks.{asksBy}
 use Rattle.views.specs.Views.{viewOf}
 use Rattle.edits.specs.declared.Edit.{Edit}
-use Rattle.edits.specs.declared.Edit.the-variants.{Nothing, Permit, Entry, Register, Mode, Close}
+use Rattle.edits.specs.declared.Edit.the-variants.{Nothing, Permit, Entry, Register, Mode}
 use Rattle.edits.specs.declared.Edited.{Edited}
 
 unfoldable pub changeOf : Edit → Change
@@ -24,16 +24,14 @@ changeOf (Permit k p) = SetPermit k p
 changeOf (Entry k e) = SetEntry k e
 changeOf (Register k r v) = SetRegister k r v
 changeOf (Mode k m) = SetMode k m
-changeOf (Close u) = IsolateSpace u
 
--- the element stands in its table, the space in a slot; every place of a byte's size is one of the permits
+-- the element stands in its table; every place of a byte's size is one of the permits
 unfoldable pub Fits : Edit → Type 0
 Fits Nothing = Unit {0}
 Fits (Permit k p) = Unit {0}
 Fits (Entry k e) = k < 240
 Fits (Register k r v) = (k < 8) × (r < 16)
 Fits (Mode k m) = k < 8
-Fits (Close u) = u < 32
 
 -- it is what the model decides
 pub record Decides (e : Edited) (d : Decision) : Type 0 where

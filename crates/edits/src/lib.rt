@@ -1,5 +1,5 @@
-// What a call decides that changes one element of the tables at most, or closes one space: its answer, and the change. Whoever
-// owns the tables makes it.
+// What a call decides that changes one element of the tables at most: its answer, and the element. Whoever owns the tables
+// stores it.
 ghost use mathlib.Core.Path.{_≡_};
 ghost use Rattle.model.specs.declared.Answer.the-variants.{Done};
 ghost use Rattle.model.specs.Changes.{applied};
@@ -18,7 +18,6 @@ pub enum Edit {
     Entry { place: u8, entry: Entry },
     Register { cpu: u8, register: u8, value: u32 },
     Mode { cpu: u8, mode: bool },
-    Close { slot: u8 },
 }
 
 pub struct Edited {
@@ -79,14 +78,6 @@ pub fn carried(mut s: State, e: Edited) -> Reply
             let mut c = s.cpus[k];
             c.mode = mode;
             s.cpus[k] = c;
-            Reply { answer, state: s }
-        }
-        Edit::Close { slot } => {
-            let owner = s.spaces[slot as usize].owner;
-            let permits = s.permits;
-            s.permits = closing::permits_without(permits, slot);
-            let entries = s.entries;
-            s.entries = closing::entries_without(entries, owner, slot);
             Reply { answer, state: s }
         }
     }

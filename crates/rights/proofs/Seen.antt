@@ -11,7 +11,7 @@ use Rattle.lists.specs.Choice.{both, either}
 use Rattle.lists.proofs.Choice.{both-intro, both-left, both-no, both-not, choose-elim, either-left, either-none, either-right, not-of, true-or-false}
 use Rattle.lists.proofs.Rules.{not-yes, not-no, test-no, test-yes}
 use Rattle.model.specs.declared.Answer.{Answer}
-use Rattle.model.specs.declared.Answer.the-variants.{Done, Limit, NoSpace, NoSharing, NotPermitted, ListFull, AletSpecification, AlenTranslation}
+use Rattle.model.specs.declared.Answer.the-variants.{Done, BadCaller, Limit, NoSpace, NoSharing, NotPermitted, ListFull, AletSpecification, AlenTranslation}
 use Rattle.model.specs.declared.Caller.{Caller}
 use Rattle.model.specs.declared.Change.the-variants.{SetPermit, SetEntry, IsolateSpace}
 use Rattle.model.specs.declared.Entry.{Entry}
@@ -28,10 +28,10 @@ use Rattle.model.specs.declared.Standing.the-variants.{Valid}
 use Rattle.model.specs.declared.State.{State}
 use Rattle.model.specs.Arguments.{goodOther, arguments, checkAll}
 use Rattle.model.specs.Calls.{judge, enrols, perform, owning, permit, isolate, query, add, remove, entitled}
-use Rattle.model.specs.Changes.{allows, raised, released}
-use Rattle.model.specs.Decision.{Decision, check, done}
+use Rattle.model.specs.Changes.{allows, raised, released, applied}
+use Rattle.model.specs.Decision.{Decision, refuse, check, done}
 use Rattle.model.specs.Names.{goodName}
-use Rattle.model.specs.Replies.{callOf}
+use Rattle.model.specs.Replies.{reply, replied, callOf}
 use Rattle.model.specs.Searches.{enrolled, slotOf, slotNamed, freeEntry}
 use Rattle.model.specs.SoundTest.{sound}
 use Rattle.model.specs.Tables.{noPermit, unusedEntry, spaceAt, guestAt, guestPlace, permitPlace, grantAt, entryAt, entryPlace}
@@ -46,16 +46,18 @@ use Rattle.lookup.specs.Owned.{ownedAt, ownedSpace}
 use Rattle.lookup.specs.Rows.{rowOf}
 use Rattle.lookup.proofs.Owning.{owned-row, owned-slot, owning-passes, owning-stops}
 use Rattle.lookup.proofs.Rows.{enrolled-row}
-use Rattle.edits.specs.declared.Edit.the-variants.{Nothing, Permit as PermitEdit, Entry as EntryEdit, Close}
+use Rattle.edits.specs.declared.Edit.the-variants.{Nothing, Permit as PermitEdit, Entry as EntryEdit}
 use Rattle.edits.specs.declared.Edited.{Edited}
 use Rattle.edits.specs.Edits.{changeOf, Fits, Decided}
+use Rattle.rights.specs.Isolated.{IsolatedTo}
 use Rattle.edits.proofs.Kept.{decided-refused, decided-done}
 use Rattle.translation.specs.Translated.{tokenPlace}
 use Rattle.translation.proofs.Translated.{named-place}
+use Rattle.views.specs.declared.Asks.{Asks}
 use Rattle.views.specs.declared.View.{View}
 use Rattle.views.specs.Asks.{asksBy, tokenBy}
 use Rattle.views.specs.Views.{viewOf}
-use Rattle.views.proofs.Judged.{asks-caller, judged-good, place-own, row-own, seen-caller, seen-enrolled, seen-guest}
+use Rattle.views.proofs.Judged.{asks-caller, judged-bad, judged-good, place-own, row-own, seen-caller, seen-enrolled, seen-guest}
 use Rattle.views.proofs.Looked.{space-row, space-slot, permit-slot, permit-finds, isolate-finds, query-finds, permit-other}
 use Rattle.views.proofs.Added.{add-finds, add-free, add-unused}
 
@@ -113,8 +115,8 @@ module _ (v : View) (k : Operation) (i : ℕ) (l : v .place < 8) (o : Owned) (is
         owned-row (s .spaces) (v .slot) (slotOf (s .spaces) i) (c .guest) o (f .finds s c e)
         (is ∙ ap₂ (ownedAt (v .slot)) (space-row s (asksBy (c .guest) k) v e) (seen-caller s (c .guest) k v e l))
 
-    owned-refused : (x : Edited) (a : Answer) → o ≡ Refused a → x ≡ record { answer = a; edit = Nothing } → Decided v k x
-    owned-refused x a q p = decided-refused v k x a p (λ s c ok e. f .judged s c e ∙ owning-stops s (c .guest) i o (owned-is s c e) _ a q)
+    stops : (a : Answer) → o ≡ Refused a → (s : State) (c : Caller) → Shows v k s c → judge s (callOf c k) 0 ≡ refuse a
+    stops a q s c e = f .judged s c e ∙ owning-stops s (c .guest) i o (owned-is s c e) _ a q
 
     module _ (u : ℕ) (q : o ≡ At u) where
       slot-is : (s : State) (c : Caller) → Shows v k s c → u ≡ slotOf (s .spaces) i
@@ -160,7 +162,7 @@ module _ (v : View) (i h : ℕ) (r : Right) (x : Edited) (l : v .place < 8) wher
     }
 
     pub permit-refused : (a : Answer) → o ≡ Refused a → x ≡ record { answer = a; edit = Nothing } → Decided v (Permit i h r) x
-    permit-refused = owned-refused v (Permit i h r) i l o is shared permit-seeks x
+    permit-refused a q p = decided-refused v (Permit i h r) x a p (λ s c ok e. stops v (Permit i h r) i l o is shared permit-seeks a q s c e)
 
     module _ (u : ℕ) (q : o ≡ At u) where
       share-is : (s : State) (c : Caller) → Shows v (Permit i h r) s c → v .guest .share ≡ guestAt (s .guests) (c .guest) .share
@@ -200,7 +202,11 @@ module _ (v : View) (i h : ℕ) (r : Right) (x : Edited) (l : v .place < 8) wher
           }))
 
 -- ISOLATE
-module _ (v : View) (i : ℕ) (x : Edited) (l : v .place < 8) (o : Owned) (is : o ≡ ownedAt (v .slot) (v .space) (v .place + 1)) where
+pub isolate-bad : (v : View) (i : ℕ) → 8 ≤ v .place → IsolatedTo v i (Refused BadCaller)
+unfolding enrols
+isolate-bad v i g = record { is = λ s c ok e. judged-bad s c (Isolate i) 0 v refl e g }
+
+module _ (v : View) (i : ℕ) (l : v .place < 8) (o : Owned) (is : o ≡ ownedAt (v .slot) (v .space) (v .place + 1)) where
   closes : State → Caller → Decision
   closes s c = done (IsolateSpace (slotOf (s .spaces) i))
 
@@ -211,15 +217,35 @@ module _ (v : View) (i : ℕ) (x : Edited) (l : v .place < 8) (o : Owned) (is : 
     judged = λ s c e. judged-good s c (Isolate i) 0 v refl e l;
   }
 
-  pub isolate-refused : (a : Answer) → o ≡ Refused a → x ≡ record { answer = a; edit = Nothing } → Decided v (Isolate i) x
-  isolate-refused = owned-refused v (Isolate i) i l o is closes isolate-seeks x
+  pub isolate-told : IsolatedTo v i o
+  unfolding closes
+  isolate-told = go o refl
+    where
+      go : (w : Owned) → o ≡ w → IsolatedTo v i w
+      go (Refused a) q = record { is = λ s c ok e. stops v (Isolate i) i l o is closes isolate-seeks a q s c e }
+      go (At u) q = record {
+        low = slot-low u (v .slot) (v .place + 1) (v .space) o is q;
+        decided = record {
+          is = λ s c ok e.
+              goes-on v (Isolate i) i l o is closes isolate-seeks u q s c e ∙ ap (λ w. done (IsolateSpace w)) (sym (slot-is v (Isolate i) i l o is closes isolate-seeks u q s c e));
+        };
+      }
 
-  pub isolate-done : (u : ℕ) → o ≡ At u → x ≡ record { answer = Done 0; edit = Close u } → Decided v (Isolate i) x
-  unfolding closes changeOf Fits
-  isolate-done u q p =
-      decided-done v (Isolate i) x _ _ p (slot-low u (v .slot) (v .place + 1) (v .space) o is q)
-      (λ s c ok e. rw (goes-on v (Isolate i) i l o is closes isolate-seeks u q s c e)
-      (record { answer = refl; change = ap IsolateSpace (slot-is v (Isolate i) i l o is closes isolate-seeks u q s c e) }))
+-- of a state that is handed over
+module _ (s : State) (c : Caller) (i : ℕ) (a : Asks) (v : View) (o : Owned) (ok : sound s ≡ true) (p : a ≡ asksBy (c .guest) (Isolate i)) (q : v ≡ viewOf s a) (t : IsolatedTo v i o) where
+  told-as : (w : Owned) → o ≡ w → IsolatedTo v i w
+  told-as w e = subst (IsolatedTo v i) e t
+
+  pub isolate-refused : (x : Answer) → o ≡ Refused x → reply x s ≡ replied s (judge s (callOf c (Isolate i)) 0)
+  unfolding replied
+  isolate-refused x e = ap (replied s) (sym (told-as (Refused x) e .is s c ok (q ∙ ap (viewOf s) p)))
+
+  pub isolate-low : (u : ℕ) → o ≡ At u → u < 32
+  isolate-low u e = told-as (At u) e .low
+
+  pub isolate-done : (u : ℕ) (r : State) → o ≡ At u → r ≡ applied s (IsolateSpace u) → reply (Done 0) r ≡ replied s (judge s (callOf c (Isolate i)) 0)
+  unfolding replied
+  isolate-done u r e y = ap (reply (Done 0)) y ∙ ap (replied s) (sym (told-as (At u) e .decided .is s c ok (q ∙ ap (viewOf s) p)))
 
 -- QUERY
 module _ (v : View) (o n : ℕ) (x : Edited) (l : v .place < 8) (a : Bool) (ys : a ≡ both (leb 1 o) (leb o 8)) where

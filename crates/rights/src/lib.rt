@@ -1,14 +1,18 @@
 // PERMIT, ISOLATE, QUERY, ADD and REMOVE. Each is decided on what it has seen of the tables, of any state that it was seen in; and of a
 // sound state that is handed over.
+ghost use Prim.Native.Nat.{_<_};
 ghost use mathlib.Core.Bool.{true};
 ghost use mathlib.Core.Path.{_≡_};
 ghost use lib.Dec.{leb, ltb};
 ghost use Rattle.lists.specs.Choice.{both};
 ghost use Rattle.model.specs.Calls.{judge};
+ghost use Rattle.model.specs.Changes.{applied};
+ghost use Rattle.model.specs.declared.Change.the-variants.{IsolateSpace};
 ghost use Rattle.model.specs.Replies.{replied, callOf};
 ghost use Rattle.model.specs.SoundTest.{sound};
 ghost use Rattle.model.specs.declared.Operation.the-variants.{Permit as PermitCall, Isolate, Query, Add, Remove};
 ghost use Rattle.edits.specs.Edits.{Decided};
+ghost use Rattle.rights.specs.Isolated.{IsolatedTo};
 use edits::Edit;
 use edits::Edited;
 use lookup::Owned;
@@ -74,19 +78,29 @@ pub fn permit(s: State, caller: Caller, id: u32, guest: u32, right: Right) -> Re
     edits::carried(s, decide_permit(v, id, guest, right))
 }
 
-// All permits for the space go, and with them other guests' entries for it; the owner's stay.
-pub fn decide_isolate(v: View, id: u32) -> Edited
-    ensures { λ r. ⌜ Decided v (Isolate id) r ⌝ }
+// All permits for the space go, and with them other guests' entries for it; the owner's stay. Two tables change, all over: what
+// is decided is the slot that is closed.
+pub fn decide_isolate(v: View, id: u32) -> Owned
+    ensures { λ r. ⌜ IsolatedTo v id r ⌝ }
 {
     let at = v.place;
     if 8 <= at {
-        return edits::refused(Answer::BadCaller);
+        return Owned::Refused(Answer::BadCaller);
     }
     let x = v.space;
-    match lookup::owned_at(v.slot as usize, x, at as u32 + 1) {
-        Owned::Refused(refusal) => edits::refused(refusal),
-        Owned::At { slot } => edits::done(Edit::Close { slot }),
-    }
+    lookup::owned_at(v.slot as usize, x, at as u32 + 1)
+}
+
+fn close(mut s: State, slot: u8) -> State
+    requires { ⌜ slot < 32 ⌝ }
+    ensures { λ r. ⌜ r ≡ applied s (IsolateSpace slot) ⌝ }
+{
+    let x = s.spaces[slot as usize];
+    let p = s.permits;
+    s.permits = closing::permits_without(p, slot);
+    let e = s.entries;
+    s.entries = closing::entries_without(e, x.owner, slot);
+    s
 }
 
 pub fn isolate(s: State, caller: Caller, id: u32) -> Reply
@@ -95,7 +109,16 @@ pub fn isolate(s: State, caller: Caller, id: u32) -> Reply
 {
     let operation = Operation::Isolate { id };
     let v = views::seen_in(s, views::asked_by(Call { caller, operation }));
-    edits::carried(s, decide_isolate(v, id))
+    match decide_isolate(v, id) {
+        Owned::Refused(refusal) => Reply {
+            answer: refusal,
+            state: s,
+        },
+        Owned::At { slot } => Reply {
+            answer: Answer::Done { value: 0 },
+            state: close(s, slot),
+        },
+    }
 }
 
 fn is_guest(g: u32) -> bool

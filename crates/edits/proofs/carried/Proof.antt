@@ -1,6 +1,6 @@
 -- `edits::carried` meets its contract. Assumes nothing.
 use Rattle.edits.specs.Edits.{changeOf}
-use Rattle.edits.proofs.Kept.{insides, carried-by, closed-by}
+use Rattle.edits.proofs.Kept.{insides, carried-by}
 use borrow.Author.Needs.{needs}
 use Rattle.edits.proofs.carried.Statement.{statement}
 use Rattle.edits.proofs.carried.Tie as tie
@@ -23,15 +23,6 @@ element-copy-out-c-2 c = search insides
 element-set-from-c : tie.Need-element-set-from-c
 element-set-from-c c = search insides
 
-element-copy-out-owner : tie.Need-element-copy-out-owner
-element-copy-out-owner c = search insides
-
-permits-without-requires : tie.Need-permits-without-requires
-permits-without-requires c κs = search insides
-
-entries-without-requires : tie.Need-entries-without-requires
-entries-without-requires c κs = search insides
-
 returns : tie.Need-returns
 unfolding changeOf
 returns c = search carried-by
@@ -51,9 +42,6 @@ returns-4 c = search carried-by
 returns-5 : tie.Need-returns-5
 unfolding changeOf
 returns-5 c = search carried-by
-
-returns-6 : tie.Need-returns-6
-returns-6 c = search (carried-by, closed-by)
 
 pub carried-spec : {M : Type 1} → statement M
 carried-spec =
@@ -82,15 +70,8 @@ carried-spec =
     element-copy-out-c-2
     (λ c. search needs)
     element-set-from-c
-    (λ c. search needs)
-    (λ c. search needs)
-    (λ c. search needs)
-    element-copy-out-owner
-    permits-without-requires
-    entries-without-requires
     returns
     returns-2
     returns-3
     returns-4
-    returns-5
-    returns-6)
+    returns-5)

@@ -1,11 +1,17 @@
 -- `rights::isolate` meets its contract. Assumes nothing.
-use Rattle.edits.proofs.Kept.{seen-carried}
+use Rattle.rights.proofs.Seen.{isolate-refused, isolate-low, isolate-done}
 use borrow.Author.Needs.{needs}
 use Rattle.rights.proofs.isolate.Statement.{statement}
 use Rattle.rights.proofs.isolate.Tie as tie
 
+close-requires : tie.Need-close-requires
+close-requires c κs = search isolate-low
+
 returns : tie.Need-returns
-returns c = search seen-carried
+returns c = search isolate-refused
+
+returns-2 : tie.Need-returns-2
+returns-2 c = search isolate-done
 
 pub isolate-spec : {M : Type 1} → statement M
 isolate-spec =
@@ -14,5 +20,8 @@ isolate-spec =
     (λ c κs. search needs)
     (λ c κs. search needs)
     (λ c κs. search needs)
-    (λ c κs. search needs)
-    returns)
+    (λ c. search needs)
+    (λ c. search needs)
+    close-requires
+    returns
+    returns-2)
