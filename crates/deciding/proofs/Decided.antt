@@ -1,26 +1,34 @@
 -- From what one call decides to what any call comes to. Assumes nothing.
 use Prim.Native.Nat.{ℕ}
 use mathlib.Core.List.{List, [], _∷_}
-use mathlib.Core.Path.{_≡_, refl, subst, sym}
+use mathlib.Core.Path.{_≡_, refl, subst, sym, ap}
 use denote.Enum.Declared.{tagOf}
 use types.Run.{OneOf}
 use Rattle.model.specs.declared.Answer.{Answer}
 use Rattle.model.specs.declared.Operation.{Operation}
-use Rattle.model.specs.declared.Operation.the-variants.{Permit, Query, Add, Remove, Load, Mode, Fetch, Store}
+use Rattle.model.specs.declared.Operation.the-variants.{Permit, Isolate, Query, Add, Remove, Load, Mode, Fetch, Store}
 use Rattle.model.specs.declared.Right.{Right}
+use Rattle.model.specs.Replies.{replied}
 use Rattle.model.proofs.Classes.{unmoving-at}
 use Rattle.model.proofs.Operation as operation-cases
 use Rattle.access.specs.Access.{Fetches, Stores}
+use Rattle.lookup.specs.declared.Owned.{Owned}
+use Rattle.lookup.specs.declared.Owned.the-variants.{At, Refused}
+use Rattle.rights.specs.Isolated.{IsolatedTo}
 use Rattle.edits.specs.declared.Edit.the-variants.{Nothing}
 use Rattle.edits.specs.declared.Edited.{Edited}
 use Rattle.edits.specs.Edits.{changeOf, Fits, Decided}
 use Rattle.edits.proofs.Kept.{carried-reply}
 use Rattle.views.specs.declared.View.{View}
 use Rattle.deciding.specs.declared.Decision.{Decision}
-use Rattle.deciding.specs.declared.Decision.the-variants.{Made, NeedsTables}
-use Rattle.deciding.specs.Decisions.{CarriedOut, NotYet, DecidedTo}
+use Rattle.deciding.specs.declared.Decision.the-variants.{Made, Closes, NeedsTables}
+use Rattle.deciding.specs.Decisions.{DecidedTo}
 use Rattle.calls.proofs.Served.{still, fetched, stored}
 use Rattle.calls.proofs.Touches.{touch, Unmoving, LeavesScratch, LeavesBuffer}
+
+-- what ISOLATE is found to have decided
+isolated-as : (v : View) (id : ℕ) (w : Owned) → IsolatedTo v id w → (y : Owned) → w ≡ y → IsolatedTo v id y
+isolated-as v id w t y e = subst (IsolatedTo v id) e t
 
 module _ (v : View) (o : Operation) (m b : List ℕ) (r : Decision) where
   -- a call that touches tables alone
@@ -28,7 +36,7 @@ module _ (v : View) (o : Operation) (m b : List ℕ) (r : Decision) where
   by k is u ls lb x e d =
       rw (is, e) (record {
         fits = d .fits;
-        served = λ s c ok seen. still s c k m b u ls lb _ (carried-reply s x _ _ (d .decides s c ok seen) refl);
+        carried = record { served = λ s c ok seen. still s c k m b u ls lb _ (carried-reply s x _ _ (d .decides s c ok seen) refl) };
       })
 
   pub permit-made : (id guest : ℕ) (right : Right) (x : Edited) → o ≡ Permit id guest right → r ≡ Made x → Decided v (Permit id guest right) x → DecidedTo v o m b r m b
@@ -49,6 +57,16 @@ module _ (v : View) (o : Operation) (m b : List ℕ) (r : Decision) where
   pub mode-made : (mode : ℕ) (x : Edited) → o ≡ Mode mode → r ≡ Made x → Decided v (Mode mode) x → DecidedTo v o m b r m b
   mode-made mode x is = by (Mode mode) is tt tt tt x
 
+  -- ISOLATE
+  pub isolate-refused : (id : ℕ) (w : Owned) (a : Answer) → o ≡ Isolate id → IsolatedTo v id w → w ≡ Refused a → r ≡ Made (record { answer = a; edit = Nothing }) → DecidedTo v o m b r m b
+  unfolding Fits changeOf replied
+  isolate-refused id w a is t q e =
+      let h = isolated-as v id w t (Refused a) q in
+      rw (is, e) (record {
+        fits = tt;
+        carried = record { served = λ s c ok seen. still s c (Isolate id) m b tt tt tt _ (ap (replied s) (sym (h .is s c ok seen))) };
+      })
+
   -- FETCH and STORE
   pub fetch-moved : (register address : ℕ) (a : Answer) (b' : List ℕ) → o ≡ Fetch register address → r ≡ Made (record { answer = a; edit = Nothing })
       → Fetches v register address m b a b' → DecidedTo v o m b r m b'
@@ -56,7 +74,7 @@ module _ (v : View) (o : Operation) (m b : List ℕ) (r : Decision) where
   fetch-moved register address a b' is e f =
       rw (is, e) (record {
         fits = tt;
-        served = λ s c ok seen. let told = f .is s c ok seen in fetched s c (Fetch register address) m b tt tt a b' (told .0) (told .1);
+        carried = record { served = λ s c ok seen. let told = f .is s c ok seen in fetched s c (Fetch register address) m b tt tt a b' (told .0) (told .1) };
       })
 
   pub store-moved : (register address : ℕ) (a : Answer) (m' : List ℕ) → o ≡ Store register address → r ≡ Made (record { answer = a; edit = Nothing })
@@ -65,12 +83,21 @@ module _ (v : View) (o : Operation) (m b : List ℕ) (r : Decision) where
   store-moved register address a m' is e f =
       rw (is, e) (record {
         fits = tt;
-        served = λ s c ok seen. let told = f .is s c ok seen in stored s c (Store register address) m b tt tt a m' (told .0) (told .1);
+        carried = record { served = λ s c ok seen. let told = f .is s c ok seen in stored s c (Store register address) m b tt tt a m' (told .0) (told .1) };
       })
+
+pub isolate-closes : (v : View) (o : Operation) (m b : List ℕ) (id : ℕ) (w : Owned) (u : ℕ) → o ≡ Isolate id → IsolatedTo v id w → w ≡ At u → DecidedTo v o m b (Closes u) m b
+unfolding replied
+isolate-closes v o m b id w u is t q =
+    let h = isolated-as v id w t (At u) q in
+    rw is (record {
+      low = h .low;
+      carried = record { served = λ s c ok seen. still s c (Isolate id) m b tt tt tt _ (ap (replied s) (sym (h .decided .is s c ok seen))) };
+    })
 
 -- the calls that ask for whole tables, by their places in the enum, move no bytes
 abbrev whole : List ℕ
-whole = 0 ∷ 1 ∷ 2 ∷ 4 ∷ 12 ∷ []
+whole = 0 ∷ 1 ∷ 2 ∷ 12 ∷ []
 
 pub not-yet : (v : View) (o : Operation) (m b : List ℕ) → OneOf whole (tagOf operation-cases.the-type o) → DecidedTo v o m b NeedsTables m b
 not-yet v o m b h = record { unmoving = unmoving-at whole o h refl; scratch = refl; buffer = refl }

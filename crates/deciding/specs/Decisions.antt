@@ -1,9 +1,13 @@
 -- What becomes of a call on what it has seen of the tables. `m` is scratch, `b` the call's buffer.
-use Prim.Native.Nat.{ℕ}
+use Prim.Native.Nat.{ℕ, _<_}
 use mathlib.Core.Bool.{true}
 use mathlib.Core.List.{List}
 use mathlib.Core.Path.{_≡_}
+use Rattle.model.specs.declared.Answer.{Answer}
+use Rattle.model.specs.declared.Answer.the-variants.{Done}
 use Rattle.model.specs.declared.Caller.{Caller}
+use Rattle.model.specs.declared.Change.{Change}
+use Rattle.model.specs.declared.Change.the-variants.{IsolateSpace}
 use Rattle.model.specs.declared.Operation.{Operation}
 use Rattle.model.specs.declared.State.{State}
 use Rattle.model.specs.Changes.{applied}
@@ -16,14 +20,23 @@ use Rattle.views.specs.declared.View.{View}
 use Rattle.views.specs.Asks.{asksBy}
 use Rattle.views.specs.Views.{viewOf}
 use Rattle.deciding.specs.declared.Decision.{Decision}
-use Rattle.deciding.specs.declared.Decision.the-variants.{Made, NeedsTables}
+use Rattle.deciding.specs.declared.Decision.the-variants.{Made, Closes, NeedsTables}
 use Rattle.calls.specs.Served.{Served}
 
--- For every caller and every sound state which shows what was seen, the call has been served once its edit is stored.
-pub record CarriedOut (v : View) (o : Operation) (m b : List ℕ) (x : Edited) (m' b' : List ℕ) : Type 0 where
+-- For every caller and every sound state which shows what was seen, the call is served with the answer a once the change k is
+-- made.
+pub record CarriedOut (v : View) (o : Operation) (m b : List ℕ) (a : Answer) (k : Change) (m' b' : List ℕ) : Type 0 where
+  pub served : (s : State) (c : Caller) → sound s ≡ true → v ≡ viewOf s (asksBy (c .guest) o) → Served s (callOf c o) (reply a (applied s k)) m b m' b'
+
+-- an edit is left
+pub record Edits (v : View) (o : Operation) (m b : List ℕ) (x : Edited) (m' b' : List ℕ) : Type 0 where
   pub fits : Fits (x .edit)
-  pub served : (s : State) (c : Caller) → sound s ≡ true → v ≡ viewOf s (asksBy (c .guest) o)
-      → Served s (callOf c o) (reply (x .answer) (applied s (changeOf (x .edit)))) m b m' b'
+  pub carried : CarriedOut v o m b (x .answer) (changeOf (x .edit)) m' b'
+
+-- the space in a slot is to be closed
+pub record Closing (v : View) (o : Operation) (m b : List ℕ) (slot : ℕ) (m' b' : List ℕ) : Type 0 where
+  pub low : slot < 32
+  pub carried : CarriedOut v o m b (Done 0) (IsolateSpace slot) m' b'
 
 -- or nothing has been done yet, for a call that moves no bytes
 pub record NotYet (o : Operation) (m b m' b' : List ℕ) : Type 0 where
@@ -32,5 +45,6 @@ pub record NotYet (o : Operation) (m b m' b' : List ℕ) : Type 0 where
   pub buffer : b' ≡ b
 
 abbrev pub DecidedTo : View → Operation → (m b : List ℕ) → Decision → (m' b' : List ℕ) → Type 0
-DecidedTo v o m b (Made x) m' b' = CarriedOut v o m b x m' b'
+DecidedTo v o m b (Made x) m' b' = Edits v o m b x m' b'
+DecidedTo v o m b (Closes u) m' b' = Closing v o m b u m' b'
 DecidedTo v o m b NeedsTables m' b' = NotYet o m b m' b'

@@ -1,5 +1,5 @@
-// Any call on what it sees of the tables: decided, its bytes moved, and its edit left to whoever owns the tables. A call that
-// asks for whole tables is left to be carried out.
+// Any call on what it sees of the tables: decided, and its bytes moved. What it changes in the tables is left to whoever owns
+// them, and so is a call that asks for whole tables.
 ghost use mathlib.Core.Path.{_≡_};
 ghost use Rattle.transfer.specs.Transferred.{RunIn};
 ghost use Rattle.edits.specs.declared.Edit.the-variants.{Nothing};
@@ -7,12 +7,15 @@ ghost use Rattle.deciding.specs.declared.Decision.the-variants.{Made};
 ghost use Rattle.deciding.specs.Decisions.{DecidedTo};
 use edits::Edit;
 use edits::Edited;
+use lookup::Owned;
 use model::Answer;
 use model::Operation;
 use views::View;
 
+// Decided, with an edit to be stored; done, where a space is to be closed; or left.
 pub enum Decision {
     Made { edited: Edited },
+    Closes { slot: u8 },
     NeedsTables,
 }
 
@@ -22,8 +25,8 @@ fn made(edited: Edited) -> Decision
     Decision::Made { edited }
 }
 
-// A fetch or a store changes no table.
-fn moved(answer: Answer) -> Decision
+// No table changes.
+fn unchanged(answer: Answer) -> Decision
     ensures { λ r. ⌜ r ≡ Made (record { answer = answer; edit = Nothing }) ⌝ }
 {
     let edited = Edited {
@@ -40,16 +43,20 @@ pub fn decide(v: View, scratch: &mut [u8], operation: Operation, buffer: &mut [u
 {
     match operation {
         Operation::Permit { id, guest, right } => made(rights::decide_permit(v, id, guest, right)),
+        Operation::Isolate { id } => match rights::decide_isolate(v, id) {
+            Owned::Refused(refusal) => unchanged(refusal),
+            Owned::At { slot } => Decision::Closes { slot },
+        },
         Operation::Query { owner, name } => made(rights::decide_query(v, owner, name)),
         Operation::Add { id, right } => made(rights::decide_add(v, id, right)),
         Operation::Remove { token } => made(rights::decide_remove(v, token)),
         Operation::Load { register, value } => made(cpus::decide_load(v, register, value)),
         Operation::Mode { mode } => made(cpus::decide_mode(v, mode)),
         Operation::Fetch { register, address } => {
-            moved(access::fetch_seen(v, scratch, register, address, buffer))
+            unchanged(access::fetch_seen(v, scratch, register, address, buffer))
         }
         Operation::Store { register, address } => {
-            moved(access::store_seen(v, scratch, register, address, buffer))
+            unchanged(access::store_seen(v, scratch, register, address, buffer))
         }
         _ => Decision::NeedsTables,
     }

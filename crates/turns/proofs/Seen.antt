@@ -11,8 +11,11 @@ use lib.Seq.{length-take-le, take-append-seam}
 use borrow.Author.Tests.{not-true, not-false}
 use Rattle.lists.specs.Bytes.{over}
 use Rattle.lists.proofs.Choice.{no! }
-use Rattle.model.specs.declared.Answer.the-variants.{Unsound, LineNotRead}
+use Rattle.model.specs.declared.Answer.{Answer}
+use Rattle.model.specs.declared.Answer.the-variants.{Done, Unsound, LineNotRead}
 use Rattle.model.specs.declared.Call.{Call}
+use Rattle.model.specs.declared.Change.{Change}
+use Rattle.model.specs.declared.Change.the-variants.{IsolateSpace}
 use Rattle.model.specs.declared.Request.{Request}
 use Rattle.model.specs.declared.Request.the-variants.{Frames, Call as Asked, NotRead}
 use Rattle.model.specs.declared.State.{State}
@@ -25,8 +28,8 @@ use Rattle.model.specs.SoundTest.{sound}
 use Rattle.access.proofs.Reach.{seen-run}
 use Rattle.calls.specs.Served.{Served}
 use Rattle.deciding.specs.declared.Decision.{Decision}
-use Rattle.deciding.specs.declared.Decision.the-variants.{Made, NeedsTables}
-use Rattle.deciding.specs.Decisions.{CarriedOut, DecidedTo, NotYet as NotDecided}
+use Rattle.deciding.specs.declared.Decision.the-variants.{Made, Closes, NeedsTables}
+use Rattle.deciding.specs.Decisions.{CarriedOut, DecidedTo}
 use Rattle.edits.specs.declared.Edit.the-variants.{Nothing}
 use Rattle.edits.specs.declared.Edited.{Edited}
 use Rattle.edits.specs.Edits.{changeOf, Fits}
@@ -35,11 +38,11 @@ use Rattle.views.specs.declared.View.{View}
 use Rattle.views.specs.Asks.{asksBy, asksFor}
 use Rattle.views.specs.Views.{viewOf}
 use Rattle.turns.specs.declared.Answered.{Answered}
-use Rattle.turns.specs.declared.Answered.the-variants.{To, NotYet}
+use Rattle.turns.specs.declared.Answered.the-variants.{To, Closing, NotYet}
 use Rattle.turns.specs.declared.Here.{Here}
 use Rattle.turns.specs.declared.Outcome.{Outcome}
 use Rattle.turns.specs.Taken.{sessionOf, dataIn, Prepared, bufferLength, Taken, Waiting}
-use Rattle.turns.specs.Told.{Sees, Seeing, hostOf, edited, AnsweredBy, Unanswered, AnsweredTo}
+use Rattle.turns.specs.Told.{Sees, Seeing, hostOf, AnsweredBy, AnsweredTo}
 use Rattle.turns.proofs.Carried.{served-scratch, served-buffer, unready-taken, served-taken}
 use Rattle.turns.proofs.Filled.{prepared-long, unstoring, part-given}
 use Rattle.turns.proofs.Usable.{usable-sound, usable-room, usable-part}
@@ -60,15 +63,14 @@ module _ (q : Request) (m : List ℕ) (x : Here) (v : View) (z : Seeing q (lengt
 module _ (x : Here) (v : View) (q : Request) (m b : List ℕ) (y : Answered) where
   pub unread-told : q ≡ NotRead → y ≡ To (record { request = q; answer = LineNotRead; moved = 0 }) Nothing → AnsweredTo x v q m b y m b
   unfolding Fits changeOf requestTurn
-  unread-told g e = rw (e, g) (record { fits = tt; moved = omega arith; taken = λ s z. record { session = refl; outcome = refl; ready = z .ready } })
+  unread-told g e = rw (e, g) (record { fits = tt; answered = record { moved = omega arith; taken = λ s z. record { session = refl; outcome = refl; ready = z .ready } } })
 
   module _ (k : Call) (size : ℕ) (g : q ≡ Asked k size) where
     pub early-told : not (x .begun) ≡ true → y ≡ To (record { request = Asked k size; answer = LineNotRead; moved = 0 }) Nothing → AnsweredTo x v q m b y m b
     unfolding Fits changeOf requestTurn
     early-told f e = rw (e, g) (record {
       fits = tt;
-      moved = omega arith;
-      taken = λ s z. rw (no! _ _ (not-true (x .begun) f)) (record { session = refl; outcome = refl; ready = z .ready });
+      answered = record { moved = omega arith; taken = λ s z. rw (no! _ _ (not-true (x .begun) f)) (record { session = refl; outcome = refl; ready = z .ready }) };
     })
 
     -- or check 1 does not hold
@@ -77,11 +79,13 @@ module _ (x : Here) (v : View) (q : Request) (m b : List ℕ) (y : Answered) whe
       unfolding Fits changeOf
       unready-told u e = rw e (record {
         fits = tt;
-        moved = few;
-        taken = λ s z.
-            subst (λ (w : Request). Taken (requestTurn (sessionOf (hostOf x s) m) w (dataIn q b)) (record { request = Asked k size; answer = Unsound; moved = n }) b (hostOf x s) m) (sym g)
-            (unready-taken (hostOf x s) m (dataIn q b) k size (not-false (x .begun) f) (z .ready) _ b (not-true (x .ready) u)
-            (ap (λ (l : List ℕ). record { request = Asked k size; answer = Unsound; moved = l }) (part-given q k size n b g p c)));
+        answered = record {
+          moved = few;
+          taken = λ s z.
+              subst (λ (w : Request). Taken (requestTurn (sessionOf (hostOf x s) m) w (dataIn q b)) (record { request = Asked k size; answer = Unsound; moved = n }) b (hostOf x s) m) (sym g)
+              (unready-taken (hostOf x s) m (dataIn q b) k size (not-false (x .begun) f) (z .ready) _ b (not-true (x .ready) u)
+              (ap (λ (l : List ℕ). record { request = Asked k size; answer = Unsound; moved = l }) (part-given q k size n b g p c)));
+        };
       })
 
 -- A call that was decided: `m'` and `b'` are its parts of scratch and of the buffer after it.
@@ -95,20 +99,20 @@ module _ (x : Here) (v : View) (q : Request) (k : Call) (size n : ℕ) (m b m' b
   part-long : length (take (n - 0) b) ≡ n
   part-long = ap (λ j. length (take j b)) (sub-zero n) ∙ length-take-le n b (omega (arith, prepared-long q b p))
 
-  -- it has been served, whatever the tables are that it was seen in
-  module _ (e : Edited) (is : y ≡ Made e) where
-    out : CarriedOut v (k .operation) (take (x .frames * 4096 - 0) m) (take (n - 0) b) e m' b'
-    out = subst (λ (w : Decision). DecidedTo v (k .operation) (take (x .frames * 4096 - 0) m) (take (n - 0) b) w m' b') is d
+  decided : (w : Decision) → y ≡ w → DecidedTo v (k .operation) (take (x .frames * 4096 - 0) m) (take (n - 0) b) w m' b'
+  decided w is = subst (λ (u : Decision). DecidedTo v (k .operation) (take (x .frames * 4096 - 0) m) (take (n - 0) b) u m' b') is d
 
+  -- it has been served, whatever the tables are that it was seen in
+  module _ (a : Answer) (ch : Change) (out : CarriedOut v (k .operation) (take (x .frames * 4096 - 0) m) (take (n - 0) b) a ch m' b') where
     module _ (s : State) (z : Sees s q (length m) x v) where
       lent : take (x .frames * 4096 - 0) m ≡ take (s .frames * 4096) m
       lent = ap (λ j. take j m) (sub-zero _ ∙ ap (λ j. j * 4096) (z .frames))
 
-      raw : Served s k (reply (e .answer) (applied s (changeOf (e .edit)))) (take (x .frames * 4096 - 0) m) (take (n - 0) b) m' b'
+      raw : Served s k (reply a (applied s ch)) (take (x .frames * 4096 - 0) m) (take (n - 0) b) m' b'
       unfolding asksFor
       raw = out .served s (k .caller) (usable-sound s m (x .ready) (z .ready) (not-false (x .ready) t)) (z .view ∙ ap (λ w. viewOf s (asksFor w)) g)
 
-      served : Served s k (reply (e .answer) (applied s (changeOf (e .edit)))) (take (s .frames * 4096) m) (bufferFor (k .operation) size (dataIn q b)) m' b'
+      served : Served s k (reply a (applied s ch)) (take (s .frames * 4096) m) (bufferFor (k .operation) size (dataIn q b)) m' b'
       served = rw (lent, part) at raw
 
       moved : take n (b' ++ drop (n - 0) b) ≡ b'
@@ -124,23 +128,30 @@ module _ (x : Here) (v : View) (q : Request) (k : Call) (size n : ℕ) (m b m' b
           let j : 0 + length m' ≡ x .frames * 4096 - 0 = omega (arith, l, z .frames) in
           ap (λ w. m' ++ drop w m) j
 
-      decided-taken : Taken (requestTurn (sessionOf (hostOf x s) m) q (dataIn q b)) (record { request = Asked k size; answer = e .answer; moved = n }) (b' ++ drop (n - 0) b)
-          (edited x s (e .edit)) (m' ++ drop (x .frames * 4096 - 0) m)
+      decided-taken : Taken (requestTurn (sessionOf (hostOf x s) m) q (dataIn q b)) (record { request = Asked k size; answer = a; moved = n }) (b' ++ drop (n - 0) b)
+          (hostOf x (applied s ch)) (m' ++ drop (x .frames * 4096 - 0) m)
       decided-taken =
           rw (← back)
-          (subst (λ (w : Request). Taken (requestTurn (sessionOf (hostOf x s) m) w (dataIn q b)) (record { request = Asked k size; answer = e .answer; moved = n }) (b' ++ drop (n - 0) b) (edited x s (e .edit)) (over m 0 m')) (sym g)
+          (subst (λ (w : Request). Taken (requestTurn (sessionOf (hostOf x s) m) w (dataIn q b)) (record { request = Asked k size; answer = a; moved = n }) (b' ++ drop (n - 0) b) (hostOf x (applied s ch)) (over m 0 m')) (sym g)
           (served-taken (hostOf x s) m (dataIn q b) k size (not-false (x .begun) f) (z .ready) _ m' b' (not-false (x .ready) t) served _ _
-          (ap (λ (l : List ℕ). record { request = Asked k size; answer = e .answer; moved = l }) moved)))
+          (ap (λ (l : List ℕ). record { request = Asked k size; answer = a; moved = l }) moved)))
 
-    pub made-answered : AnsweredTo x v q m b (To (record { request = Asked k size; answer = e .answer; moved = n }) (e .edit)) (m' ++ drop (x .frames * 4096 - 0) m) (b' ++ drop (n - 0) b)
-    made-answered = record { fits = out .fits; moved = few; taken = decided-taken }
+    answered : AnsweredBy x v q m b (record { request = Asked k size; answer = a; moved = n }) ch (m' ++ drop (x .frames * 4096 - 0) m) (b' ++ drop (n - 0) b)
+    answered = record { moved = few; taken = decided-taken }
+
+  pub made-answered : (e : Edited) → y ≡ Made e
+      → AnsweredTo x v q m b (To (record { request = Asked k size; answer = e .answer; moved = n }) (e .edit)) (m' ++ drop (x .frames * 4096 - 0) m) (b' ++ drop (n - 0) b)
+  made-answered e is = let h = decided (Made e) is in record { fits = h .fits; answered = answered (e .answer) (changeOf (e .edit)) (h .carried) }
+
+  pub closes-answered : (u : ℕ) → y ≡ Closes u
+      → AnsweredTo x v q m b (Closing (record { request = Asked k size; answer = Done 0; moved = n }) u) (m' ++ drop (x .frames * 4096 - 0) m) (b' ++ drop (n - 0) b)
+  closes-answered u is = let h = decided (Closes u) is in record { low = h .low; answered = answered (Done 0) (IsolateSpace u) (h .carried) }
 
   -- or it waits
   pub call-waits : y ≡ NeedsTables → AnsweredTo x v q m b NotYet (m' ++ drop (x .frames * 4096 - 0) m) (b' ++ drop (n - 0) b)
   unfolding stores
   call-waits is =
-      let w : NotDecided (k .operation) (take (x .frames * 4096 - 0) m) (take (n - 0) b) m' b' =
-      subst (λ (w : Decision). DecidedTo v (k .operation) (take (x .frames * 4096 - 0) m) (take (n - 0) b) w m' b') is d in
+      let w = decided NeedsTables is in
       record {
         waits = subst (Waiting (x .begun) (x .ready)) (sym g) (not-false (x .begun) f, not-false (x .ready) t, w .unmoving);
         bare = unstoring q b (rw g (ap storesBytes (w .unmoving)));

@@ -1,8 +1,10 @@
 -- What becomes of a request that has what it sees of the tables.
-use Prim.Native.Nat.{ℕ, _≤_}
+use Prim.Native.Nat.{ℕ, _≤_, _<_}
 use mathlib.Core.List.{List, []}
 use mathlib.Core.Path.{_≡_}
 use lib.ListN.{length}
+use Rattle.model.specs.declared.Change.{Change}
+use Rattle.model.specs.declared.Change.the-variants.{IsolateSpace}
 use Rattle.model.specs.declared.Request.{Request}
 use Rattle.model.specs.declared.State.{State}
 use Rattle.model.specs.Changes.{applied}
@@ -14,7 +16,7 @@ use Rattle.views.specs.declared.View.{View}
 use Rattle.views.specs.Asks.{asksFor}
 use Rattle.views.specs.Views.{viewOf}
 use Rattle.turns.specs.declared.Answered.{Answered}
-use Rattle.turns.specs.declared.Answered.the-variants.{To, NotYet}
+use Rattle.turns.specs.declared.Answered.the-variants.{To, Closing, NotYet}
 use Rattle.turns.specs.declared.Here.{Here}
 use Rattle.turns.specs.declared.Host.{Host}
 use Rattle.turns.specs.declared.Outcome.{Outcome}
@@ -31,19 +33,24 @@ pub record Seeing (q : Request) (room : ℕ) (x : Here) (v : View) : Type 0 wher
   pub tables : State
   pub sees : Sees tables q room x v
 
--- where the host stands with its tables, and after an edit
+-- where the host stands with its tables
 abbrev pub hostOf : Here → State → Host
 hostOf x s = record { begun = x .begun; ready = x .ready; state = s }
 
-abbrev pub edited : Here → State → Edit → Host
-edited x s e = hostOf x (applied s (changeOf e))
-
--- For all tables that show what the request q sees, it has been answered once the edit is stored. `m` is scratch, `b` the
+-- For all tables that show what the request q sees, it has been answered once the change k is made. `m` is scratch, `b` the
 -- buffer as the reader has filled it.
-pub record AnsweredBy (x : Here) (v : View) (q : Request) (m b : List ℕ) (o : Outcome) (e : Edit) (m' b' : List ℕ) : Type 0 where
-  pub fits : Fits e
+pub record AnsweredBy (x : Here) (v : View) (q : Request) (m b : List ℕ) (o : Outcome) (k : Change) (m' b' : List ℕ) : Type 0 where
   pub moved : o .moved ≤ 257
-  pub taken : (s : State) → Sees s q (length m) x v → Taken (requestTurn (sessionOf (hostOf x s) m) q (dataIn q b)) o b' (edited x s e) m'
+  pub taken : (s : State) → Sees s q (length m) x v → Taken (requestTurn (sessionOf (hostOf x s) m) q (dataIn q b)) o b' (hostOf x (applied s k)) m'
+
+-- an edit is left to be stored, or a space to be closed
+pub record Edits (x : Here) (v : View) (q : Request) (m b : List ℕ) (o : Outcome) (e : Edit) (m' b' : List ℕ) : Type 0 where
+  pub fits : Fits e
+  pub answered : AnsweredBy x v q m b o (changeOf e) m' b'
+
+pub record Closes (x : Here) (v : View) (q : Request) (m b : List ℕ) (o : Outcome) (slot : ℕ) (m' b' : List ℕ) : Type 0 where
+  pub low : slot < 32
+  pub answered : AnsweredBy x v q m b o (IsolateSpace slot) m' b'
 
 -- or it has no data, and nothing has been done yet
 pub record Unanswered (x : Here) (q : Request) (m b m' b' : List ℕ) : Type 0 where
@@ -53,5 +60,6 @@ pub record Unanswered (x : Here) (q : Request) (m b m' b' : List ℕ) : Type 0 w
   pub buffer : b' ≡ b
 
 abbrev pub AnsweredTo : Here → View → Request → (m b : List ℕ) → Answered → (m' b' : List ℕ) → Type 0
-AnsweredTo x v q m b (To o e) m' b' = AnsweredBy x v q m b o e m' b'
+AnsweredTo x v q m b (To o e) m' b' = Edits x v q m b o e m' b'
+AnsweredTo x v q m b (Closing o u) m' b' = Closes x v q m b o u m' b'
 AnsweredTo x v q m b NotYet m' b' = Unanswered x q m b m' b'

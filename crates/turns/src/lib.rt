@@ -51,10 +51,11 @@ pub struct Here {
     pub frames: u32,
 }
 
-// A request is answered, and the owner of the tables has an element to store. One that asks for whole tables is not answered
-// yet.
+// A request is answered, and the owner of the tables has an element to store or a space to close. One that asks for whole tables
+// is not answered yet.
 pub enum Answered {
     To { outcome: Outcome, edit: Edit },
+    Closing { outcome: Outcome, slot: u8 },
     NotYet,
 }
 
@@ -84,7 +85,7 @@ fn told(request: Request, answer: Answer, moved: usize) -> Answered
     }
 }
 
-// A request is answered, where that stores one element at most.
+// A request is answered, where it doesn't ask for whole tables.
 pub fn answer(
     here: Here,
     v: View,
@@ -119,6 +120,17 @@ pub fn answer(
                     Answered::To {
                         outcome: outcome,
                         edit: edit,
+                    }
+                }
+                Decision::Closes { slot } => {
+                    let outcome = Outcome {
+                        request: request,
+                        answer: Answer::Done { value: 0 },
+                        moved: n,
+                    };
+                    Answered::Closing {
+                        outcome: outcome,
+                        slot: slot,
                     }
                 }
                 Decision::NeedsTables => Answered::NotYet,

@@ -1,6 +1,6 @@
 -- `turns::answer` meets its contract. Assumes nothing.
 use Rattle.turns.proofs.Filled.{part-within}
-use Rattle.turns.proofs.Seen.{seeing-room, seeing-run, unread-told, early-told, unready-told, made-answered, call-waits, frames-wait}
+use Rattle.turns.proofs.Seen.{seeing-room, seeing-run, unread-told, early-told, unready-told, made-answered, closes-answered, call-waits, frames-wait}
 use borrow.Author.Needs.{needs}
 use Rattle.turns.proofs.answer.Statement.{statement}
 use Rattle.turns.proofs.answer.Tie as tie
@@ -27,10 +27,13 @@ returns-4 : tie.Need-returns-4
 returns-4 c = search made-answered
 
 returns-5 : tie.Need-returns-5
-returns-5 c = search call-waits
+returns-5 c = search closes-answered
 
 returns-6 : tie.Need-returns-6
-returns-6 c = search unread-told
+returns-6 c = search call-waits
+
+returns-7 : tie.Need-returns-7
+returns-7 c = search unread-told
 
 pub answer-spec : {M : Type 1} → statement M
 answer-spec =
@@ -55,6 +58,7 @@ answer-spec =
     (λ c. search needs)
     (λ c. search needs)
     (λ c. search needs)
+    (λ c. search needs)
     (λ c κs. search needs)
     returns-3
     (λ c. search needs)
@@ -63,4 +67,7 @@ answer-spec =
     (λ c. search needs)
     (λ c. search needs)
     returns-5
-    returns-6)
+    (λ c. search needs)
+    (λ c. search needs)
+    returns-6
+    returns-7)
