@@ -9,20 +9,24 @@ use lib.Seq.{take-at}
 use Rattle.lists.specs.Bytes.{over}
 use Rattle.lists.specs.Choice.{choose}
 use Rattle.lists.proofs.Choice.{yes!, no! }
+use Rattle.model.specs.declared.Change.{Change}
+use Rattle.model.specs.declared.Change.the-variants.{IsolateSpace}
 use Rattle.model.specs.declared.Request.{Request}
+use Rattle.model.specs.Changes.{applied}
 use Rattle.model.specs.Lines.{stores, lengthOf, readLine, dataOf}
 use Rattle.model.specs.Session.{Session, requestTurn, lineTurn}
 use Rattle.lines.proofs.Stored.{data-length, data-most, data-none}
 use Rattle.turns.specs.declared.Answered.{Answered}
-use Rattle.turns.specs.declared.Answered.the-variants.{To, NotYet}
+use Rattle.turns.specs.declared.Answered.the-variants.{To, Closing, NotYet}
 use Rattle.ready.specs.Usable.{usable}
 use Rattle.turns.specs.declared.Here.{Here}
 use Rattle.turns.specs.declared.Changed.{Changed}
 use Rattle.turns.specs.declared.Outcome.{Outcome}
 use Rattle.turns.specs.Taken.{sessionOf, dataIn, Prepared, Taken, Waiting, hostAfter, ChangedTo}
-use Rattle.turns.specs.Told.{Sees, Seeing, hostOf, edited, AnsweredBy, Unanswered, AnsweredTo}
+use Rattle.turns.specs.Told.{Sees, Seeing, hostOf, AnsweredBy, Edits, Closes, Unanswered, AnsweredTo}
 use Rattle.turns.proofs.Filled.{prepared-long}
 use Rattle.edits.specs.declared.Edit.{Edit}
+use Rattle.edits.specs.Edits.{changeOf}
 use Rattle.views.specs.declared.Asks.{Asks}
 use Rattle.views.specs.declared.View.{View}
 use Rattle.views.specs.Asks.{asksFor}
@@ -52,18 +56,33 @@ module _ (l : List ℕ) (q : Request) (b : List ℕ) (e : q ≡ readLine l) (f :
 
   -- it has been answered on what it saw of the tables s
   module _ (x : Here) (v : View) (m : List ℕ) (y : Answered) (m' b' : List ℕ) (a : AnsweredTo x v q m b y m' b') where
+    told : (w : Answered) → y ≡ w → AnsweredTo x v q m b w m' b'
+    told w z = subst (λ (u : Answered). AnsweredTo x v q m b u m' b') z a
+
+    line-taken : (o : Outcome) (k : Change) → AnsweredBy x v q m b o k m' b' → (s : State) → Sees s q (length m) x v
+        → Taken (lineTurn (sessionOf (hostOf x s) m) l) o b' (hostOf x (applied s k)) m'
+    line-taken o k h s w = rw (read-turn (sessionOf (hostOf x s) m)) at (h .taken s w)
+
     -- once the edit is stored
     module _ (o : Outcome) (ed : Edit) (z : y ≡ To o ed) where
-      pub line-answered : AnsweredBy x v q m b o ed m' b'
-      line-answered = subst (λ (w : Answered). AnsweredTo x v q m b w m' b') z a
+      pub line-edits : Edits x v q m b o ed m' b'
+      line-edits = told (To o ed) z
 
-      pub line-edited : (s : State) → Sees s q (length m) x v → Taken (lineTurn (sessionOf (hostOf x s) m) l) o b' (edited x s ed) m'
-      line-edited s w = rw (read-turn (sessionOf (hostOf x s) m)) at (line-answered .taken s w)
+      pub line-edited : (s : State) → Sees s q (length m) x v → Taken (lineTurn (sessionOf (hostOf x s) m) l) o b' (hostOf x (applied s (changeOf ed))) m'
+      line-edited = line-taken o (changeOf ed) (line-edits .answered)
+
+    -- once the space is closed
+    module _ (o : Outcome) (u : ℕ) (z : y ≡ Closing o u) where
+      pub line-closes : Closes x v q m b o u m' b'
+      line-closes = told (Closing o u) z
+
+      pub line-closed : (s : State) → Sees s q (length m) x v → Taken (lineTurn (sessionOf (hostOf x s) m) l) o b' (hostOf x (applied s (IsolateSpace u))) m'
+      line-closed = line-taken o (IsolateSpace u) (line-closes .answered)
 
     -- not yet, but on the tables then
     module _ (z : y ≡ NotYet) where
       unanswered : Unanswered x q m b m' b'
-      unanswered = subst (λ (w : Answered). AnsweredTo x v q m b w m' b') z a
+      unanswered = told NotYet z
 
       pub line-waits : Waiting (x .begun) (x .ready) q
       line-waits = unanswered .waits

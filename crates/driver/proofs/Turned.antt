@@ -13,9 +13,8 @@ use Rattle.turns.specs.declared.Here.{Here}
 use Rattle.turns.specs.declared.Outcome.{Outcome}
 use Rattle.turns.specs.Taken.{sessionOf, outcomeOf, Taken}
 use Rattle.digits.specs.Wrote.{Wrote}
-use Rattle.turns.specs.Told.{hostOf, edited}
-use Rattle.edits.specs.declared.Edit.{Edit}
-use Rattle.edits.specs.Edits.{changeOf}
+use Rattle.turns.specs.Told.{hostOf}
+use Rattle.model.specs.declared.Change.{Change}
 use Rattle.model.specs.declared.State.{State}
 use Rattle.model.specs.Changes.{applied}
 use Rattle.driver.specs.Feed.{Feed, newlineFrom, wholeLine}
@@ -38,8 +37,8 @@ module _ (f : Feed) (h : Host) (input out out₁ m held : List ℕ) (i e a n n�
       let short : length (take have held) ≤ 601 = omega (arith, length-take have held) in
       rw y (going-line f input out out₁ i e a n (sessionOf h m) (take have held) g c l short fits (sessionOf h₁ m₁) out₂ p less (t .session) (rw (t .outcome) at w))
 
--- the same of a request that has been answered once its edit is stored, by an edit that is found to be y
-module _ (x : Here) (s t : State) (l m m₁ b : List ℕ) (o : Outcome) (ed y : Edit) (k : Taken (lineTurn (sessionOf (hostOf x s) m) l) o b (edited x s ed) m₁)
-    (e : ed ≡ y) (p : t ≡ applied s (changeOf y)) where
+-- the same of a request that has been answered once a change is made, which is found to be k'
+module _ (x : Here) (s t : State) (l m m₁ b : List ℕ) (o : Outcome) (k k' : Change) (h : Taken (lineTurn (sessionOf (hostOf x s) m) l) o b (hostOf x (applied s k)) m₁)
+    (e : k ≡ k') (p : t ≡ applied s k') where
   pub stored-taken : Taken (lineTurn (sessionOf (hostOf x s) m) l) o b (hostOf x t) m₁
-  stored-taken = rw p (rw e at k)
+  stored-taken = rw p (rw e at h)

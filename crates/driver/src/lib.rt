@@ -195,6 +195,14 @@ fn feed_lines(
                     }
                 }
             }
+            Answered::Closing { outcome, slot } => {
+                at = turns::tell(out, at, number, outcome, &buffer);
+                let x = state.spaces[slot as usize];
+                let p = state.permits;
+                state.permits = closing::permits_without(p, slot);
+                let n = state.entries;
+                state.entries = closing::entries_without(n, x.owner, slot);
+            }
             Answered::NotYet => {
                 let host = Host {
                     begun: begun,
