@@ -7,7 +7,7 @@ use lib.Dec.{eqb}
 use borrow.Author.Tests.{le-leb, lt-leb}
 use Rattle.lists.specs.Choice.{implies}
 use Rattle.lists.proofs.Rules.{test-no, test-yes}
-use Rattle.model.specs.declared.Answer.the-variants.{Done, BadCaller, Limit, SpecialOperation}
+use Rattle.model.specs.declared.Answer.the-variants.{Done, Limit, SpecialOperation}
 use Rattle.model.specs.declared.Caller.{Caller}
 use Rattle.model.specs.declared.Change.the-variants.{SetRegister, SetMode}
 use Rattle.model.specs.declared.Guest.{Guest}
@@ -25,13 +25,9 @@ use Rattle.edits.proofs.Kept.{decided-refused, decided-done}
 use Rattle.views.specs.declared.View.{View}
 use Rattle.views.specs.Asks.{asksBy}
 use Rattle.views.specs.Views.{viewOf}
-use Rattle.views.proofs.Judged.{judged-bad, judged-good, place-own, seen-guest}
+use Rattle.views.proofs.Judged.{judged-good, place-own, seen-guest}
 
 module _ (v : View) (r n : ℕ) (x : Edited) where
-  pub load-bad : 8 ≤ v .place → x ≡ record { answer = BadCaller; edit = Nothing } → Decided v (Load r n) x
-  unfolding enrols
-  load-bad h p = decided-refused v (Load r n) x BadCaller p (λ s c ok e. judged-bad s c (Load r n) 0 v refl e h)
-
   module _ (l : v .place < 8) where
     pub load-limit : 15 < r → x ≡ record { answer = Limit RegisterKind 2; edit = Nothing } → Decided v (Load r n) x
     unfolding enrols arguments checkAll perform
@@ -45,10 +41,6 @@ module _ (v : View) (r n : ℕ) (x : Edited) where
         (record { answer = refl; change = ap (λ k. SetRegister k r n) (place-own s (c .guest) (Load r n) v e l) }))
 
 module _ (v : View) (m : ℕ) (x : Edited) where
-  pub mode-bad : 8 ≤ v .place → x ≡ record { answer = BadCaller; edit = Nothing } → Decided v (Mode m) x
-  unfolding enrols
-  mode-bad h p = decided-refused v (Mode m) x _ p (λ s c ok e. judged-bad s c (Mode m) 0 v refl e h)
-
   module _ (l : v .place < 8) where
     pub mode-limit : 1 < m → x ≡ record { answer = Limit Flag 2; edit = Nothing } → Decided v (Mode m) x
     unfolding enrols arguments checkAll perform

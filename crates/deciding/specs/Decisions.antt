@@ -29,12 +29,12 @@ pub record CarriedOut (v : View) (o : Operation) (m b : List ℕ) (a : Answer) (
   pub served : (s : State) (c : Caller) → sound s ≡ true → v ≡ viewOf s (asksBy (c .guest) o) → Served s (callOf c o) (reply a (applied s k)) m b m' b'
 
 -- an edit is left
-pub record Edits (v : View) (o : Operation) (m b : List ℕ) (x : Edited) (m' b' : List ℕ) : Type 0 where
+pub record WithEdit (v : View) (o : Operation) (m b : List ℕ) (x : Edited) (m' b' : List ℕ) : Type 0 where
   pub fits : Fits (x .edit)
   pub carried : CarriedOut v o m b (x .answer) (changeOf (x .edit)) m' b'
 
 -- the space in a slot is to be closed
-pub record Closing (v : View) (o : Operation) (m b : List ℕ) (slot : ℕ) (m' b' : List ℕ) : Type 0 where
+pub record WithClosing (v : View) (o : Operation) (m b : List ℕ) (slot : ℕ) (m' b' : List ℕ) : Type 0 where
   pub low : slot < 32
   pub carried : CarriedOut v o m b (Done 0) (IsolateSpace slot) m' b'
 
@@ -45,6 +45,6 @@ pub record NotYet (o : Operation) (m b m' b' : List ℕ) : Type 0 where
   pub buffer : b' ≡ b
 
 abbrev pub DecidedTo : View → Operation → (m b : List ℕ) → Decision → (m' b' : List ℕ) → Type 0
-DecidedTo v o m b (Made x) m' b' = Edits v o m b x m' b'
-DecidedTo v o m b (Closes u) m' b' = Closing v o m b u m' b'
+DecidedTo v o m b (Made x) m' b' = WithEdit v o m b x m' b'
+DecidedTo v o m b (Closes u) m' b' = WithClosing v o m b u m' b'
 DecidedTo v o m b NeedsTables m' b' = NotYet o m b m' b'

@@ -23,7 +23,7 @@ use Rattle.turns.specs.declared.Here.{Here}
 use Rattle.turns.specs.declared.Changed.{Changed}
 use Rattle.turns.specs.declared.Outcome.{Outcome}
 use Rattle.turns.specs.Taken.{sessionOf, dataIn, Prepared, Taken, Waiting, hostAfter, ChangedTo}
-use Rattle.turns.specs.Told.{Sees, Seeing, hostOf, AnsweredBy, Edits, Closes, Unanswered, AnsweredTo}
+use Rattle.turns.specs.Told.{Sees, Seeing, hostOf, AnsweredBy, WithEdit, WithClosing, Unanswered, AnsweredTo}
 use Rattle.turns.proofs.Filled.{prepared-long}
 use Rattle.edits.specs.declared.Edit.{Edit}
 use Rattle.edits.specs.Edits.{changeOf}
@@ -65,7 +65,7 @@ module _ (l : List ℕ) (q : Request) (b : List ℕ) (e : q ≡ readLine l) (f :
 
     -- once the edit is stored
     module _ (o : Outcome) (ed : Edit) (z : y ≡ To o ed) where
-      pub line-edits : Edits x v q m b o ed m' b'
+      pub line-edits : WithEdit x v q m b o ed m' b'
       line-edits = told (To o ed) z
 
       pub line-edited : (s : State) → Sees s q (length m) x v → Taken (lineTurn (sessionOf (hostOf x s) m) l) o b' (hostOf x (applied s (changeOf ed))) m'
@@ -73,7 +73,7 @@ module _ (l : List ℕ) (q : Request) (b : List ℕ) (e : q ≡ readLine l) (f :
 
     -- once the space is closed
     module _ (o : Outcome) (u : ℕ) (z : y ≡ Closing o u) where
-      pub line-closes : Closes x v q m b o u m' b'
+      pub line-closes : WithClosing x v q m b o u m' b'
       line-closes = told (Closing o u) z
 
       pub line-closed : (s : State) → Sees s q (length m) x v → Taken (lineTurn (sessionOf (hostOf x s) m) l) o b' (hostOf x (applied s (IsolateSpace u))) m'

@@ -40,7 +40,7 @@ performed-number s c (Store register address) n d p = rw (p .is) refl
 performed-number s c Reset n d p = rw (p .is) refl
 
 module _ (s : State) (m : ℕ) (k : Call) (n : ℕ) where
-  -- "Each call gives only the answers that its row lists"
+  -- each call gives only the answers that its row lists
   pub answer-listed : listed (number (decide s m k n .answer)) (row (k .operation)) ≡ true
   unfolding row listed either
   answer-listed = go (verdict s m k n)
@@ -64,7 +64,7 @@ module _ (s : State) (m : ℕ) (k : Call) (n : ℕ) where
       go (refused r) = r .is ∙ ap (λ (d : Decision). refuse (d .answer)) (sym (r .is))
       go (granted g) = absurd (e (performed-number s (k .caller) (k .operation) n (decide s m k n) (g .performed)))
 
-  -- "On an unsound state or a wrong scratch length every call answers 1."
+  -- on an unsound state, or with scratch of a wrong length, every call answers 1
   pub unready : ready s m ≡ false → decide s m k n ≡ refuse Unsound
   unfolding decide check
   unready e = rw e
@@ -95,7 +95,7 @@ refused-value SpecialOperation e = refl
 refused-value PrimarySpace e = refl
 refused-value LineNotRead e = refl
 
--- Demand 1: "A refused call leaves tables, scratch and the caller's buffer as they were."
+-- "Every refusal of a call, later numbers included, changes no table, no scratch byte and no caller's buffer"
 pub record Unchanged (m : Machine) (i : Issue) : Type 0 where
   pub machine : step m i .machine ≡ m
   pub buffer : step m i .buffer ≡ i .buffer

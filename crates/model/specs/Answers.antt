@@ -1,4 +1,4 @@
--- Paper 01, "Answer numbers". Every promise speaks through `number` and `value`.
+-- Paper 01, "Answer numbers". A promise fixes the whole answer, and with it the paper's `number` and `value`.
 use Prim.Native.Nat.{ℕ}
 use Rattle.model.specs.declared.Answer.{Answer}
 use Rattle.model.specs.declared.Answer.the-variants.{Done, Unsound, BadCaller, Limit, NameTaken, NoSpace, NotOwner, NoSharing, AllowanceUsed, SlotsUsed, NoRun, NoIdentification, NotPermitted, ListFull, AletSpecification, AlenTranslation, AddressingCapability, Addressing, Protection, SpecialOperation, PrimarySpace, LineNotRead}

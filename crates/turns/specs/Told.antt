@@ -44,11 +44,11 @@ pub record AnsweredBy (x : Here) (v : View) (q : Request) (m b : List ℕ) (o : 
   pub taken : (s : State) → Sees s q (length m) x v → Taken (requestTurn (sessionOf (hostOf x s) m) q (dataIn q b)) o b' (hostOf x (applied s k)) m'
 
 -- an edit is left to be stored, or a space to be closed
-pub record Edits (x : Here) (v : View) (q : Request) (m b : List ℕ) (o : Outcome) (e : Edit) (m' b' : List ℕ) : Type 0 where
+pub record WithEdit (x : Here) (v : View) (q : Request) (m b : List ℕ) (o : Outcome) (e : Edit) (m' b' : List ℕ) : Type 0 where
   pub fits : Fits e
   pub answered : AnsweredBy x v q m b o (changeOf e) m' b'
 
-pub record Closes (x : Here) (v : View) (q : Request) (m b : List ℕ) (o : Outcome) (slot : ℕ) (m' b' : List ℕ) : Type 0 where
+pub record WithClosing (x : Here) (v : View) (q : Request) (m b : List ℕ) (o : Outcome) (slot : ℕ) (m' b' : List ℕ) : Type 0 where
   pub low : slot < 32
   pub answered : AnsweredBy x v q m b o (IsolateSpace slot) m' b'
 
@@ -60,6 +60,6 @@ pub record Unanswered (x : Here) (q : Request) (m b m' b' : List ℕ) : Type 0 w
   pub buffer : b' ≡ b
 
 abbrev pub AnsweredTo : Here → View → Request → (m b : List ℕ) → Answered → (m' b' : List ℕ) → Type 0
-AnsweredTo x v q m b (To o e) m' b' = Edits x v q m b o e m' b'
-AnsweredTo x v q m b (Closing o u) m' b' = Closes x v q m b o u m' b'
+AnsweredTo x v q m b (To o e) m' b' = WithEdit x v q m b o e m' b'
+AnsweredTo x v q m b (Closing o u) m' b' = WithClosing x v q m b o u m' b'
 AnsweredTo x v q m b NotYet m' b' = Unanswered x q m b m' b'

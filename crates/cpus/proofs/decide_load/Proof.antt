@@ -1,11 +1,14 @@
 -- `cpus::decide_load` meets its contract. Assumes nothing.
-use Rattle.cpus.proofs.Done.{load-bad, load-limit, load-done}
+use Rattle.model.specs.Calls.{enrols}
+use Rattle.edits.proofs.Kept.{decided-bad}
+use Rattle.cpus.proofs.Done.{load-limit, load-done}
 use borrow.Author.Needs.{needs}
 use Rattle.cpus.proofs.decide_load.Statement.{statement}
 use Rattle.cpus.proofs.decide_load.Tie as tie
 
 returns : tie.Need-returns
-returns c = search load-bad
+unfolding enrols
+returns c = search decided-bad
 
 returns-2 : tie.Need-returns-2
 returns-2 c = search load-limit

@@ -1,11 +1,14 @@
 -- `cpus::decide_mode` meets its contract. Assumes nothing.
-use Rattle.cpus.proofs.Done.{mode-bad, mode-limit, mode-refused, mode-done}
+use Rattle.model.specs.Calls.{enrols}
+use Rattle.edits.proofs.Kept.{decided-bad}
+use Rattle.cpus.proofs.Done.{mode-limit, mode-refused, mode-done}
 use borrow.Author.Needs.{needs}
 use Rattle.cpus.proofs.decide_mode.Statement.{statement}
 use Rattle.cpus.proofs.decide_mode.Tie as tie
 
 returns : tie.Need-returns
-returns c = search mode-bad
+unfolding enrols
+returns c = search decided-bad
 
 returns-2 : tie.Need-returns-2
 returns-2 c = search mode-limit
