@@ -36,13 +36,13 @@ module _ (s s' : Session) (held line line' m m' out out' : List ℕ) (r : Fed) (
           absurd (omega (arith, t .stopped (omega arith), end))
 
   pub last-said : Wrote out 0 (replyTo (feedOf s held m)) out' (r .written)
-  unfolding said says choose eqb
+  unfolding said says choose
   last-said =
       let w : Wrote out 0 (said (feedOf s line m) (take 1 (10 ∷ []))) out' (r .written) = rw taken at (t .going .text) in
       rw (append-nil (replyTo (feedOf s line m)), same) at w
 
   pub last-scratch : m' ≡ ended (feedOf s held m) .session .scratch
-  unfolding after next choose eqb
+  unfolding after next choose
   last-scratch =
       let f : feedOf s' line' m' ≡ after (feedOf s line m) (take 1 (10 ∷ [])) = rw taken at (t .going .feed) in
       rw same at (ap (λ (g : Feed). g .session .scratch) f)

@@ -1,117 +1,22 @@
 -- `driver::feed_lines` meets its contract. Assumes nothing.
-use Rattle.closing.proofs.entries_without.Reads as entries-without-reads
-use Rattle.closing.proofs.permits_without.Reads as permits-without-reads
-use Rattle.driver.proofs.line_end.Reads as line-end-reads
-use Rattle.driver.proofs.read_request.Reads as read-request-reads
-use Rattle.driver.proofs.stand.Reads as stand-reads
-use Rattle.held.proofs.hold.Reads as hold-reads
-use Rattle.lookup.proofs.place_of.Reads as place-of-reads
-use Rattle.lookup.proofs.row.Reads as row-reads
-use Rattle.lookup.proofs.slot_row.Reads as slot-row-reads
-use Rattle.ready.proofs.is_usable.Reads as is-usable-reads
-use Rattle.std.proofs.num.wrapping_add_u64.Reads as wrapping-add-u64-reads
-use Rattle.translation.proofs.entry_place.Reads as entry-place-reads
-use Rattle.turns.proofs.answer.Reads as answer-reads
-use Rattle.turns.proofs.change.Reads as change-reads
-use Rattle.turns.proofs.tell.Reads as tell-reads
-use Rattle.views.proofs.advance.Reads as advance-reads
-use Rattle.views.proofs.asked.Reads as asked-reads
-use Rattle.views.proofs.free_place.Reads as free-place-reads
-use Rattle.views.proofs.go_on.Reads as go-on-reads
-use Rattle.views.proofs.search_for.Reads as search-for-reads
-use Rattle.views.proofs.take_from.Reads as take-from-reads
-use Rattle.views.proofs.token_seen.Reads as token-seen-reads
-use Rattle.driver.proofs.feed_lines.Reads as reads
-use Rattle.driver.proofs.feed_lines.Lts as lts
-use Prim.Native.Nat.{_+_, _-_, _*_, _≤_, _<_}
-use mathlib.Core.Bool.{true}
+mod Loop
 use mathlib.Core.Logic.{inl}
-use mathlib.Core.Path.{_≡_, refl, ap}
+use mathlib.Core.Path.{refl, ap}
 use native.Mathlib.Omega.{arith}
-use lib.ListN.{length, getD}
-use Rattle.ready.specs.Usable.{usable}
-use Rattle.views.specs.Search.{foundBy, leftOf}
-use Rattle.views.specs.Taking.{takenBy, leftIn, WithinList}
-use Rattle.views.proofs.Lists.{within-list, took-on, took-within, took-nearer}
-use Rattle.views.proofs.Slots.{at-inside, went-on, went-nearer, went-inside}
-use Rattle.driver.specs.Fed.{Starts, Going}
-use Rattle.driver.proofs.Feeding.{going-start, line-starts}
-use Rattle.driver.proofs.Turned.{feedAt, turned, stored-taken}
 use Rattle.model.specs.declared.Change.the-variants.{IsolateSpace}
-use Rattle.model.specs.declared.State.{State}
-use Rattle.model.specs.Tables.{noGuest, noSpace, noPermit, unusedEntry}
 use Rattle.closing.proofs.Withdrawn.{isolated-by}
 use Rattle.edits.specs.Edits.{changeOf}
 use Rattle.edits.proofs.Kept.{entry-inside, cpu-inside, register-inside, mode-inside}
-use Rattle.turns.specs.declared.Here.{Here}
-use Rattle.turns.specs.Told.{Sees}
-use Rattle.views.proofs.Seen.{view-read}
-use Rattle.driver.proofs.Stepped.{read-prepared, read-long, sees-read, line-edits, line-edited, line-closes, line-closed, line-waits, line-ready, line-changed}
+use Rattle.views.proofs.Lists.{within-list, took-on, took-within, took-nearer}
+use Rattle.views.proofs.Slots.{at-inside, went-on, went-nearer, went-inside}
+use Rattle.driver.proofs.feed_lines.Proof.Loop.{Inv-loop2, μ-loop2, Inv-loop3, μ-loop3, Inv-loop, μ-loop, top, before, tables, here, sees, again}
+use Rattle.driver.proofs.Feeding.{going-start}
+use Rattle.driver.proofs.Stepped.{read-prepared, read-long, line-edits, line-edited, line-closes, line-closed, line-waits, line-ready, line-changed}
 use Rattle.driver.proofs.Stopped.{stop-full, stop-end, stop-part}
+use Rattle.driver.proofs.Turned.{stored-taken}
 use borrow.Author.Needs.{needs}
 use Rattle.driver.proofs.feed_lines.Statement.{statement}
 use Rattle.driver.proofs.feed_lines.Tie as tie
-
--- the inner loop looks for a space
-abbrev Inv-loop2 : tie.InvT-loop2
-Inv-loop2 held scratch input out state begun ready at line have i e next buffer request asks row guest token entry search₀ search =
-    (foundBy search (state .spaces) ≡ foundBy search₀ (state .spaces)) × (search .looking ≡ true → search .at < 32)
-
-abbrev μ-loop2 : tie.MeasureT-loop2
-μ-loop2 held scratch input out state begun ready at line have i e next buffer request asks row guest token entry search₀ search = leftOf search
-
--- and the next one for an entry
-abbrev Inv-loop3 : tie.InvT-loop3
-Inv-loop3 held scratch input out state begun ready at line have i e next buffer request asks row guest token entry search take₀ take =
-    (takenBy take (state .entries) row ≡ takenBy take₀ (state .entries) row) × WithinList take
-
-abbrev μ-loop3 : tie.MeasureT-loop3
-μ-loop3 held scratch input out state begun ready at line have i e next buffer request asks row guest token entry search take₀ take = leftIn take
-
-abbrev Inv-loop : tie.InvT-loop
-Inv-loop held₀ scratch₀ input out₀ state₀ begun₀ ready₀ at₀ line₀ have₀ i₀ held scratch out state begun ready at line have i =
-    Going (feedAt (record { begun = begun₀; ready = ready₀; state = state₀ }) scratch₀ line₀ have₀ held₀) input out₀ i at (feedAt (record { begun = begun; ready = ready; state = state }) scratch line have held) out
-    × (ready ≡ usable state (length scratch)) × (have ≤ 601) × (length held ≡ 601) × (length out ≡ length out₀) × (length scratch ≡ length scratch₀) × Starts input i
-
-abbrev μ-loop : tie.MeasureT-loop
-μ-loop held₀ scratch₀ input out₀ state₀ begun₀ ready₀ at₀ line₀ have₀ i₀ held scratch out state begun ready at line have i = length input - i
-
--- Where a request is about to be answered, and where the loop stood before it.
-abbrev Before : Type 0
-Before = lts.After-buffer2 (is-usable-reads.Asked, is-usable-reads.Learnt, stand-reads.Asked, stand-reads.Learnt, line-end-reads.Asked, line-end-reads.Learnt, hold-reads.Asked, hold-reads.Learnt, read-request-reads.Asked, read-request-reads.Learnt, asked-reads.Asked, asked-reads.Learnt, row-reads.Asked, row-reads.Learnt, token-seen-reads.Asked, token-seen-reads.Learnt, entry-place-reads.Asked, entry-place-reads.Learnt, search-for-reads.Asked, search-for-reads.Learnt, advance-reads.Asked, advance-reads.Learnt, take-from-reads.Asked, take-from-reads.Learnt, go-on-reads.Asked, go-on-reads.Learnt, slot-row-reads.Asked, slot-row-reads.Learnt, free-place-reads.Asked, free-place-reads.Learnt, place-of-reads.Asked, place-of-reads.Learnt, answer-reads.Asked, answer-reads.Learnt, wrapping-add-u64-reads.Asked, wrapping-add-u64-reads.Learnt, tell-reads.Asked, tell-reads.Learnt, permits-without-reads.Asked, permits-without-reads.Learnt, entries-without-reads.Asked, entries-without-reads.Learnt, change-reads.Asked, change-reads.Learnt) reads.Pre reads.Post Inv-loop2 μ-loop2 Inv-loop3 μ-loop3 Inv-loop μ-loop
-
-abbrev Top : Type 0
-Top = lts.At-loop (is-usable-reads.Asked, is-usable-reads.Learnt, stand-reads.Asked, stand-reads.Learnt, line-end-reads.Asked, line-end-reads.Learnt, hold-reads.Asked, hold-reads.Learnt, read-request-reads.Asked, read-request-reads.Learnt, asked-reads.Asked, asked-reads.Learnt, row-reads.Asked, row-reads.Learnt, token-seen-reads.Asked, token-seen-reads.Learnt, entry-place-reads.Asked, entry-place-reads.Learnt, search-for-reads.Asked, search-for-reads.Learnt, advance-reads.Asked, advance-reads.Learnt, take-from-reads.Asked, take-from-reads.Learnt, go-on-reads.Asked, go-on-reads.Learnt, slot-row-reads.Asked, slot-row-reads.Learnt, free-place-reads.Asked, free-place-reads.Learnt, place-of-reads.Asked, place-of-reads.Learnt, answer-reads.Asked, answer-reads.Learnt, wrapping-add-u64-reads.Asked, wrapping-add-u64-reads.Learnt, tell-reads.Asked, tell-reads.Learnt, permits-without-reads.Asked, permits-without-reads.Learnt, entries-without-reads.Asked, entries-without-reads.Learnt, change-reads.Asked, change-reads.Learnt) reads.Pre reads.Post Inv-loop2 μ-loop2 Inv-loop3 μ-loop3 Inv-loop μ-loop
-
-abbrev top : Before → Top
-top c = c .before .before .before .before .before .before .before .before .before .before .before .before .before .before .before .before .before .before .before .before .before .before .before .before .before .before .before .before .before .before .before .before .before .before .before
-
-abbrev tables : Before → State
-tables c = top c .loop .state
-
-abbrev here : Before → Here
-here c = record { begun = top c .loop .begun; ready = top c .loop .ready; frames = tables c .frames }
-
--- what it has seen is what the tables show
-sees : (c : Before) → Sees (tables c) (c .before .before .before .before .before .before .before .before .before .before .before .before .before .before .before .before .before .before .before .before .before .before .before .before .before .before .before .read-request .result) (length (top c .loop .scratch)) (here c) (record {
-  place = c .before .before .before .place-of .result;
-  guest = getD (tables c .guests) (c .before .before .before .before .before .before .before .before .before .before .before .before .before .before .before .before .before .before .before .before .before .before .before .row .result) noGuest;
-  other = c .before .before .place-of2 .result;
-  token = c .before .before .before .before .before .before .before .before .before .before .before .before .before .before .before .before .before .before .before .before .token-seen .result;
-  entry = getD (tables c .entries) (c .before .before .before .before .before .before .before .before .before .before .before .before .before .before .before .before .before .before .before .entry-place .result) unusedEntry;
-  slot = c .before .before .before .before .before .before .before .before .before .before .before .before .before .before .before .before .loop2 .search .at;
-  space = getD (tables c .spaces) (c .before .before .before .before .before .before .before .before .before .before .slot-row .result) noSpace;
-  permit = getD (tables c .permits) (c .before .before .before .before .before .before .before .before .before .before .slot-row .result * 8 + c .before .before .before .before .before .before .before .before .row2 .result) noPermit;
-  free = c .before .before .before .before .before .before .before .before .before .before .before .before .before .loop3 .take .at;
-  unused = getD (tables c .entries) (c .before .before .before .before .before .free-place .result) unusedEntry;
-})
-sees c =
-    sees-read _ _ (c .before .before .before .before .before .before .before .before .before .before .before .before .before .before .before .before .before .before .before .before .before .before .before .before .asked .result) _ _ _ (c .before .before .before .before .before .before .before .before .before .before .before .before .before .before .before .before .before .before .before .before .before .before .before .before .asked .ensures)
-    (view-read (tables c) (c .before .before .before .before .before .before .before .before .before .before .before .before .before .before .before .before .before .before .before .before .before .before .before .before .asked .result) (c .before .before .before .before .before .before .before .before .before .before .before .before .before .before .before .before .before .before .before .before .before .before .before .row .result) _ _ _ _ _ _ _ (c .before .before .before .before .before .before .before .before .before .before .before .before .before .before .before .before .loop2 .search) (c .before .before .before .before .before .before .before .before .before .before .before .before .before .before .before .before .before .search-for .result) (c .before .before .before .before .before .before .before .before .before .before .before .before .before .loop3 .take) (c .before .before .before .before .before .before .before .before .before .before .before .before .before .before .take-from .result)
-    (c .before .before .before .before .before .before .before .before .before .before .before .before .before .before .before .before .before .before .before .before .before .before .before .row .ensures .0) (c .before .before .before .before .before .before .before .before .before .before .before .before .before .before .before .before .before .before .before .before .token-seen .ensures) (c .before .before .before .before .before .before .before .before .before .before .before .before .before .before .before .before .before .before .before .entry-place .ensures .0) (c .before .before .before .before .before .before .before .before .before .before .before .before .before .before .before .before .before .search-for .ensures .0)
-    (c .before .before .before .before .before .before .before .before .before .before .before .before .before .before .before .before .loop2 .inv .0) (c .before .before .before .before .before .before .before .before .before .before .before .before .before .before .before .loop2-test .left) (c .before .before .before .before .before .before .before .before .before .before .before .before .before .before .take-from .ensures .0) (c .before .before .before .before .before .before .before .before .before .before .before .before .before .loop3 .inv .0) (c .before .before .before .before .before .before .before .before .before .before .before .before .loop3-test .left)
-    (c .before .before .before .before .before .before .before .before .before .before .slot-row .ensures .0) (c .before .before .before .before .before .before .before .before .row2 .ensures .0) (c .before .before .before .before .before .free-place .ensures .0) (c .before .before .before .place-of .ensures) (c .before .before .place-of2 .ensures))
-    (top c .loop .inv .1) refl
 
 loop-holds : tie.Need-loop-holds Inv-loop2 μ-loop2 Inv-loop3 μ-loop3 Inv-loop μ-loop
 loop-holds c = (going-start _ _ _, search needs, search needs, search needs, refl, refl, inl refl)
@@ -153,7 +58,7 @@ slice-aggregate-answer : tie.Need-slice-aggregate-answer Inv-loop2 μ-loop2 Inv-
 slice-aggregate-answer c = let l = c .before .before .before .before .before .before .before .before .before .before .before .before .before .before .before .before .before .before .before .before .before .before .before .before .before .before .before .read-request .ensures in read-long _ _ _ (l .0) (l .1)
 
 answer-requires : tie.Need-answer-requires Inv-loop2 μ-loop2 Inv-loop3 μ-loop3 Inv-loop μ-loop
-answer-requires c κs = let l = c .before .before .before .before .before .before .before .before .before .before .before .before .before .before .before .before .before .before .before .before .before .before .before .before .before .before .before .read-request .ensures in (read-prepared _ _ _ (l .0) (l .1), record { tables = tables (c); sees = sees (c) })
+answer-requires c κs = let l = c .before .before .before .before .before .before .before .before .before .before .before .before .before .before .before .before .before .before .before .before .before .before .before .before .before .before .before .read-request .ensures in (read-prepared _ _ _ (l .0) (l .1), record { tables = tables (top c); sees = sees c })
 
 enum-known-answered : tie.Need-enum-known-answered Inv-loop2 μ-loop2 Inv-loop3 μ-loop3 Inv-loop μ-loop
 enum-known-answered c = search needs
@@ -162,7 +67,7 @@ slice-aggregate-tell : tie.Need-slice-aggregate-tell Inv-loop2 μ-loop2 Inv-loop
 slice-aggregate-tell c = search needs
 
 tell-requires : tie.Need-tell-requires Inv-loop2 μ-loop2 Inv-loop3 μ-loop3 Inv-loop μ-loop
-tell-requires c κs = let l = c .before .before .before .before .before .before .before .before .before .before .before .before .before .before .before .before .before .before .before .before .before .before .before .before .before .before .before .before .before .before .before .before .before .before .before .before .before .read-request .ensures in (omega (arith, c .before .before .before .before .before .before .before .before .before .before .before .before .before .before .before .before .before .before .before .before .before .before .before .before .before .before .before .before .before .before .before .before .before .before .before .before .before .before .before .before .before .before .before .if1 .left), line-edits _ _ _ (l .0) (l .1) _ _ _ _ _ _ (c .before .before .before .before .before .before .before .before .before .answer .ensures) _ _ (c .before .before .before .answered .given .1) .answered .moved, omega (arith, c .before .before .before .before .before .before .buffer3 .given))
+tell-requires c κs = let n = c .before .before .before .before .before in let l = (before n) .before .before .before .before .before .before .before .before .before .before .before .before .before .before .before .before .before .before .before .before .before .before .before .before .before .before .before .read-request .ensures in let a = n .before .before .before .before .answer .ensures in (omega (arith, c .before .before .before .before .before .before .before .before .before .before .before .before .before .before .before .before .before .before .before .before .before .before .before .before .before .before .before .before .before .before .before .before .before .before .before .before .before .before .before .before .before .before .before .if1 .left), line-edits _ _ _ (l .0) (l .1) _ _ _ _ _ _ a _ _ (c .before .before .before .answered .given .1) .answered .moved, omega (arith, c .before .before .before .before .before .before .buffer3 .given))
 
 enum-told : tie.Need-enum-told Inv-loop2 μ-loop2 Inv-loop3 μ-loop3 Inv-loop μ-loop
 enum-told c = search needs
@@ -172,7 +77,7 @@ loop-less c = omega (arith, c .before .before .before .before .before .before .b
 
 loop-again : tie.Need-loop-again Inv-loop2 μ-loop2 Inv-loop3 μ-loop3 Inv-loop μ-loop
 unfolding changeOf
-loop-again c = let l = c .before .before .before .before .before .before .before .before .before .before .before .before .before .before .before .before .before .before .before .before .before .before .before .before .before .before .before .before .before .before .before .before .before .before .before .before .before .before .before .before .before .before .read-request .ensures in let inv = c .before .before .before .before .before .before .before .before .before .before .before .before .before .before .before .before .before .before .before .before .before .before .before .before .before .before .before .before .before .before .before .before .before .before .before .before .before .before .before .before .before .before .before .before .before .before .before .before .before .before .loop .inv in let end = c .before .before .before .before .before .before .before .before .before .before .before .before .before .before .before .before .before .before .before .before .before .before .before .before .before .before .before .before .before .before .before .before .before .before .before .before .before .before .before .before .before .before .before .before .before .before .before .line-end .ensures in let k = line-edited _ _ _ (l .0) (l .1) _ _ _ _ _ _ (c .before .before .before .before .before .before .before .before .before .before .before .before .before .before .answer .ensures) _ _ (c .before .before .before .before .before .before .before .before .answered .given .1) _ (sees (c .before .before .before .before .before .before .before .before .before .before .before .before .before .before .before)) in let t = stored-taken (here (c .before .before .before .before .before .before .before .before .before .before .before .before .before .before .before)) _ _ _ _ _ _ _ _ _ k (ap changeOf (c .enum-told .given .1)) refl in (turned _ (record { begun = c .before .before .before .before .before .before .before .before .before .before .before .before .before .before .before .before .before .before .before .before .before .before .before .before .before .before .before .before .before .before .before .before .before .before .before .before .before .before .before .before .before .before .before .before .before .before .before .before .before .before .loop .begun; ready = c .before .before .before .before .before .before .before .before .before .before .before .before .before .before .before .before .before .before .before .before .before .before .before .before .before .before .before .before .before .before .before .before .before .before .before .before .before .before .before .before .before .before .before .before .before .before .before .before .before .before .loop .ready; state = c .before .before .before .before .before .before .before .before .before .before .before .before .before .before .before .before .before .before .before .before .before .before .before .before .before .before .before .before .before .before .before .before .before .before .before .before .before .before .before .before .before .before .before .before .before .before .before .before .before .before .loop .state }) (c .before .before .before .before .before .before .before .before .before .before .before .before .before .before .before .before .before .before .before .before .before .before .before .before .before .before .before .before .before .before .before .before .before .before .before .before .before .before .before .before .before .before .before .before .before .before .before .before .before .before .before .before .before .before .before .before .before .args .input .now) (c .before .before .before .before .before .before .before .before .before .before .before .before .before .before .before .before .before .before .before .before .before .before .before .before .before .before .before .before .before .before .before .before .before .before .before .before .before .before .before .before .before .before .before .before .before .before .before .before .before .before .before .before .before .before .before .before .before .args .out .now) _ _ (c .before .before .before .before .before .before .before .before .before .before .before .before .before .before .before .before .before .before .before .before .before .before .before .before .before .before .before .before .before .before .before .before .before .before .before .before .before .before .before .before .before .before .before .before .before .before .before .before .before .before .loop .held) (c .before .before .before .before .before .before .before .before .before .before .before .before .before .before .before .before .before .before .before .before .before .before .before .before .before .before .before .before .before .before .before .before .before .before .before .before .before .before .before .before .before .before .before .before .before .before .before .before .before .before .loop .i) _ _ _ _ (c .before .before .before .before .before .before .before .before .before .before .before .before .before .before .before .before .before .before .before .before .before .before .before .before .before .before .before .before .before .before .before .before .before .before .before .before .before .before .before .before .before .before .before .before .before .before .before .before .before .before .loop .have) (inv .0) (end .0) (end .1) (omega (arith, end .2, c .before .before .before .before .before .before .before .before .before .before .before .before .before .before .before .before .before .before .before .before .before .before .before .before .before .before .before .before .before .before .before .before .before .before .before .before .before .before .before .before .before .before .before .before .before .before .if2 .left)) (inv .2) (omega (arith, c .before .before .before .before .before .before .before .before .before .before .before .before .before .before .before .before .before .before .before .before .before .before .before .before .before .before .before .before .before .before .before .before .before .before .before .before .before .before .before .before .before .before .before .before .before .before .before .before .if1 .left, inv .4)) (c .before .before .before .before .before .before .before .before .before .before .wrapping-add-u64 .ensures) _ _ _ _ _ _ t (c .before .before .before .before .tell .ensures), t .ready, search needs, omega (arith, inv .3, c .before .before .before .before .before .before .before .before .before .before .before .before .before .before .before .before .before .before .before .before .before .before .before .before .before .before .before .before .before .before .before .before .before .before .before .before .before .before .before .before .before .held2 .given), omega (arith, inv .4, c .before .before .before .out .given), omega (arith, inv .5, c .before .before .before .before .before .before .before .before .before .before .before .before .before .scratch .given), line-starts (c .before .before .before .before .before .before .before .before .before .before .before .before .before .before .before .before .before .before .before .before .before .before .before .before .before .before .before .before .before .before .before .before .before .before .before .before .before .before .before .before .before .before .before .before .before .before .before .before .before .before .before .before .before .before .before .before .before .args .input .now) (c .before .before .before .before .before .before .before .before .before .before .before .before .before .before .before .before .before .before .before .before .before .before .before .before .before .before .before .before .before .before .before .before .before .before .before .before .before .before .before .before .before .before .before .before .before .before .before .before .before .before .loop .i) _ (end .0) (end .1) (omega (arith, end .2, c .before .before .before .before .before .before .before .before .before .before .before .before .before .before .before .before .before .before .before .before .before .before .before .before .before .before .before .before .before .before .before .before .before .before .before .before .before .before .before .before .before .before .before .before .before .before .if2 .left)))
+loop-again c = let n = c .before .before .before .before .before .before .before .before .before .before in let l = (before n) .before .before .before .before .before .before .before .before .before .before .before .before .before .before .before .before .before .before .before .before .before .before .before .before .before .before .before .read-request .ensures in let a = n .before .before .before .before .answer .ensures in let k = line-edited _ _ _ (l .0) (l .1) _ _ _ _ _ _ a _ _ (c .before .before .before .before .before .before .before .before .answered .given .1) _ (sees (before n)) in let g = again n _ _ _ _ _ _ (stored-taken (here (top (before n))) _ _ _ _ _ _ _ _ _ k (ap changeOf (c .enum-told .given .1)) refl) (c .before .before .before .before .tell .ensures) in let inv = top (before n) .loop .inv in (g .0, g .1, omega arith, omega (arith, inv .3, (before n) .before .before .before .before .before .before .before .before .before .before .before .before .before .before .before .before .before .before .before .before .before .before .before .before .before .before .held2 .given), omega (arith, inv .4, c .before .before .before .out .given), omega (arith, inv .5, n .before .before .before .scratch .given), g .2)
 
 enum-known-edit : tie.Need-enum-known-edit Inv-loop2 μ-loop2 Inv-loop3 μ-loop3 Inv-loop μ-loop
 enum-known-edit c = search needs
@@ -182,55 +87,55 @@ loop-less-2 c = omega (arith, c .before .before .before .before .before .before 
 
 loop-again-2 : tie.Need-loop-again-2 Inv-loop2 μ-loop2 Inv-loop3 μ-loop3 Inv-loop μ-loop
 unfolding changeOf
-loop-again-2 c = let l = c .before .before .before .before .before .before .before .before .before .before .before .before .before .before .before .before .before .before .before .before .before .before .before .before .before .before .before .before .before .before .before .before .before .before .before .before .before .before .before .before .before .before .before .read-request .ensures in let inv = c .before .before .before .before .before .before .before .before .before .before .before .before .before .before .before .before .before .before .before .before .before .before .before .before .before .before .before .before .before .before .before .before .before .before .before .before .before .before .before .before .before .before .before .before .before .before .before .before .before .before .before .loop .inv in let end = c .before .before .before .before .before .before .before .before .before .before .before .before .before .before .before .before .before .before .before .before .before .before .before .before .before .before .before .before .before .before .before .before .before .before .before .before .before .before .before .before .before .before .before .before .before .before .before .before .line-end .ensures in let k = line-edited _ _ _ (l .0) (l .1) _ _ _ _ _ _ (c .before .before .before .before .before .before .before .before .before .before .before .before .before .before .before .answer .ensures) _ _ (c .before .before .before .before .before .before .before .before .before .answered .given .1) _ (sees (c .before .before .before .before .before .before .before .before .before .before .before .before .before .before .before .before)) in let t = stored-taken (here (c .before .before .before .before .before .before .before .before .before .before .before .before .before .before .before .before)) _ _ _ _ _ _ _ _ _ k (ap changeOf (c .before .edit .given .1)) refl in (turned _ (record { begun = c .before .before .before .before .before .before .before .before .before .before .before .before .before .before .before .before .before .before .before .before .before .before .before .before .before .before .before .before .before .before .before .before .before .before .before .before .before .before .before .before .before .before .before .before .before .before .before .before .before .before .before .loop .begun; ready = c .before .before .before .before .before .before .before .before .before .before .before .before .before .before .before .before .before .before .before .before .before .before .before .before .before .before .before .before .before .before .before .before .before .before .before .before .before .before .before .before .before .before .before .before .before .before .before .before .before .before .before .loop .ready; state = c .before .before .before .before .before .before .before .before .before .before .before .before .before .before .before .before .before .before .before .before .before .before .before .before .before .before .before .before .before .before .before .before .before .before .before .before .before .before .before .before .before .before .before .before .before .before .before .before .before .before .before .loop .state }) (c .before .before .before .before .before .before .before .before .before .before .before .before .before .before .before .before .before .before .before .before .before .before .before .before .before .before .before .before .before .before .before .before .before .before .before .before .before .before .before .before .before .before .before .before .before .before .before .before .before .before .before .before .before .before .before .before .before .before .args .input .now) (c .before .before .before .before .before .before .before .before .before .before .before .before .before .before .before .before .before .before .before .before .before .before .before .before .before .before .before .before .before .before .before .before .before .before .before .before .before .before .before .before .before .before .before .before .before .before .before .before .before .before .before .before .before .before .before .before .before .before .args .out .now) _ _ (c .before .before .before .before .before .before .before .before .before .before .before .before .before .before .before .before .before .before .before .before .before .before .before .before .before .before .before .before .before .before .before .before .before .before .before .before .before .before .before .before .before .before .before .before .before .before .before .before .before .before .before .loop .held) (c .before .before .before .before .before .before .before .before .before .before .before .before .before .before .before .before .before .before .before .before .before .before .before .before .before .before .before .before .before .before .before .before .before .before .before .before .before .before .before .before .before .before .before .before .before .before .before .before .before .before .before .loop .i) _ _ _ _ (c .before .before .before .before .before .before .before .before .before .before .before .before .before .before .before .before .before .before .before .before .before .before .before .before .before .before .before .before .before .before .before .before .before .before .before .before .before .before .before .before .before .before .before .before .before .before .before .before .before .before .before .loop .have) (inv .0) (end .0) (end .1) (omega (arith, end .2, c .before .before .before .before .before .before .before .before .before .before .before .before .before .before .before .before .before .before .before .before .before .before .before .before .before .before .before .before .before .before .before .before .before .before .before .before .before .before .before .before .before .before .before .before .before .before .before .if2 .left)) (inv .2) (omega (arith, c .before .before .before .before .before .before .before .before .before .before .before .before .before .before .before .before .before .before .before .before .before .before .before .before .before .before .before .before .before .before .before .before .before .before .before .before .before .before .before .before .before .before .before .before .before .before .before .before .before .if1 .left, inv .4)) (c .before .before .before .before .before .before .before .before .before .before .before .wrapping-add-u64 .ensures) _ _ _ _ _ _ t (c .before .before .before .before .before .tell .ensures), t .ready, search needs, omega (arith, inv .3, c .before .before .before .before .before .before .before .before .before .before .before .before .before .before .before .before .before .before .before .before .before .before .before .before .before .before .before .before .before .before .before .before .before .before .before .before .before .before .before .before .before .before .held2 .given), omega (arith, inv .4, c .before .before .before .before .out .given), omega (arith, inv .5, c .before .before .before .before .before .before .before .before .before .before .before .before .before .before .scratch .given), line-starts (c .before .before .before .before .before .before .before .before .before .before .before .before .before .before .before .before .before .before .before .before .before .before .before .before .before .before .before .before .before .before .before .before .before .before .before .before .before .before .before .before .before .before .before .before .before .before .before .before .before .before .before .before .before .before .before .before .before .before .args .input .now) (c .before .before .before .before .before .before .before .before .before .before .before .before .before .before .before .before .before .before .before .before .before .before .before .before .before .before .before .before .before .before .before .before .before .before .before .before .before .before .before .before .before .before .before .before .before .before .before .before .before .before .before .loop .i) _ (end .0) (end .1) (omega (arith, end .2, c .before .before .before .before .before .before .before .before .before .before .before .before .before .before .before .before .before .before .before .before .before .before .before .before .before .before .before .before .before .before .before .before .before .before .before .before .before .before .before .before .before .before .before .before .before .before .before .if2 .left)))
+loop-again-2 c = let n = c .before .before .before .before .before .before .before .before .before .before .before in let l = (before n) .before .before .before .before .before .before .before .before .before .before .before .before .before .before .before .before .before .before .before .before .before .before .before .before .before .before .before .read-request .ensures in let a = n .before .before .before .before .answer .ensures in let k = line-edited _ _ _ (l .0) (l .1) _ _ _ _ _ _ a _ _ (c .before .before .before .before .before .before .before .before .before .answered .given .1) _ (sees (before n)) in let g = again n _ _ _ _ _ _ (stored-taken (here (top (before n))) _ _ _ _ _ _ _ _ _ k (ap changeOf (c .before .edit .given .1)) refl) (c .before .before .before .before .before .tell .ensures) in let inv = top (before n) .loop .inv in (g .0, g .1, omega arith, omega (arith, inv .3, (before n) .before .before .before .before .before .before .before .before .before .before .before .before .before .before .before .before .before .before .before .before .before .before .before .before .before .before .held2 .given), omega (arith, inv .4, c .before .before .before .before .out .given), omega (arith, inv .5, n .before .before .before .scratch .given), g .2)
 
 enum-known-edit-2 : tie.Need-enum-known-edit-2 Inv-loop2 μ-loop2 Inv-loop3 μ-loop3 Inv-loop μ-loop
 enum-known-edit-2 c = search needs
 
 element-set-from-n : tie.Need-element-set-from-n Inv-loop2 μ-loop2 Inv-loop3 μ-loop3 Inv-loop μ-loop
-element-set-from-n c = let l = c .before .before .before .before .before .before .before .before .before .before .before .before .before .before .before .before .before .before .before .before .before .before .before .before .before .before .before .before .before .before .before .before .before .before .before .before .before .before .before .before .before .before .before .read-request .ensures in entry-inside _ (line-edits _ _ _ (l .0) (l .1) _ _ _ _ _ _ (c .before .before .before .before .before .before .before .before .before .before .before .before .before .before .before .answer .ensures) _ _ (c .before .before .before .before .before .before .before .before .before .answered .given .1) .fits) _ _ (c .before .edit2 .given .1)
+element-set-from-n c = let n = c .before .before .before .before .before .before .before .before .before .before .before in let l = (before n) .before .before .before .before .before .before .before .before .before .before .before .before .before .before .before .before .before .before .before .before .before .before .before .before .before .before .before .read-request .ensures in let a = n .before .before .before .before .answer .ensures in entry-inside _ (line-edits _ _ _ (l .0) (l .1) _ _ _ _ _ _ a _ _ (c .before .before .before .before .before .before .before .before .before .answered .given .1) .fits) _ _ (c .before .edit2 .given .1)
 
 loop-less-3 : tie.Need-loop-less-3 Inv-loop2 μ-loop2 Inv-loop3 μ-loop3 Inv-loop μ-loop
 loop-less-3 c = omega (arith, c .before .before .before .before .before .before .before .before .before .before .before .before .before .before .before .before .before .before .before .before .before .before .before .before .before .before .before .before .before .before .before .before .before .before .before .before .before .before .before .before .before .before .before .before .before .before .before .before .line-end .ensures .1, c .before .before .before .before .before .before .before .before .before .before .before .before .before .before .before .before .before .before .before .before .before .before .before .before .before .before .before .before .before .before .before .before .before .before .before .before .before .before .before .before .before .before .before .before .before .before .before .before .before .before .loop-test .taken)
 
 loop-again-3 : tie.Need-loop-again-3 Inv-loop2 μ-loop2 Inv-loop3 μ-loop3 Inv-loop μ-loop
 unfolding changeOf
-loop-again-3 c = let l = c .before .before .before .before .before .before .before .before .before .before .before .before .before .before .before .before .before .before .before .before .before .before .before .before .before .before .before .before .before .before .before .before .before .before .before .before .before .before .before .before .before .before .before .read-request .ensures in let inv = c .before .before .before .before .before .before .before .before .before .before .before .before .before .before .before .before .before .before .before .before .before .before .before .before .before .before .before .before .before .before .before .before .before .before .before .before .before .before .before .before .before .before .before .before .before .before .before .before .before .before .before .loop .inv in let end = c .before .before .before .before .before .before .before .before .before .before .before .before .before .before .before .before .before .before .before .before .before .before .before .before .before .before .before .before .before .before .before .before .before .before .before .before .before .before .before .before .before .before .before .before .before .before .before .before .line-end .ensures in let k = line-edited _ _ _ (l .0) (l .1) _ _ _ _ _ _ (c .before .before .before .before .before .before .before .before .before .before .before .before .before .before .before .answer .ensures) _ _ (c .before .before .before .before .before .before .before .before .before .answered .given .1) _ (sees (c .before .before .before .before .before .before .before .before .before .before .before .before .before .before .before .before)) in let t = stored-taken (here (c .before .before .before .before .before .before .before .before .before .before .before .before .before .before .before .before)) _ _ _ _ _ _ _ _ _ k (ap changeOf (c .before .edit2 .given .1)) refl in (turned _ (record { begun = c .before .before .before .before .before .before .before .before .before .before .before .before .before .before .before .before .before .before .before .before .before .before .before .before .before .before .before .before .before .before .before .before .before .before .before .before .before .before .before .before .before .before .before .before .before .before .before .before .before .before .before .loop .begun; ready = c .before .before .before .before .before .before .before .before .before .before .before .before .before .before .before .before .before .before .before .before .before .before .before .before .before .before .before .before .before .before .before .before .before .before .before .before .before .before .before .before .before .before .before .before .before .before .before .before .before .before .before .loop .ready; state = c .before .before .before .before .before .before .before .before .before .before .before .before .before .before .before .before .before .before .before .before .before .before .before .before .before .before .before .before .before .before .before .before .before .before .before .before .before .before .before .before .before .before .before .before .before .before .before .before .before .before .before .loop .state }) (c .before .before .before .before .before .before .before .before .before .before .before .before .before .before .before .before .before .before .before .before .before .before .before .before .before .before .before .before .before .before .before .before .before .before .before .before .before .before .before .before .before .before .before .before .before .before .before .before .before .before .before .before .before .before .before .before .before .before .args .input .now) (c .before .before .before .before .before .before .before .before .before .before .before .before .before .before .before .before .before .before .before .before .before .before .before .before .before .before .before .before .before .before .before .before .before .before .before .before .before .before .before .before .before .before .before .before .before .before .before .before .before .before .before .before .before .before .before .before .before .before .args .out .now) _ _ (c .before .before .before .before .before .before .before .before .before .before .before .before .before .before .before .before .before .before .before .before .before .before .before .before .before .before .before .before .before .before .before .before .before .before .before .before .before .before .before .before .before .before .before .before .before .before .before .before .before .before .before .loop .held) (c .before .before .before .before .before .before .before .before .before .before .before .before .before .before .before .before .before .before .before .before .before .before .before .before .before .before .before .before .before .before .before .before .before .before .before .before .before .before .before .before .before .before .before .before .before .before .before .before .before .before .before .loop .i) _ _ _ _ (c .before .before .before .before .before .before .before .before .before .before .before .before .before .before .before .before .before .before .before .before .before .before .before .before .before .before .before .before .before .before .before .before .before .before .before .before .before .before .before .before .before .before .before .before .before .before .before .before .before .before .before .loop .have) (inv .0) (end .0) (end .1) (omega (arith, end .2, c .before .before .before .before .before .before .before .before .before .before .before .before .before .before .before .before .before .before .before .before .before .before .before .before .before .before .before .before .before .before .before .before .before .before .before .before .before .before .before .before .before .before .before .before .before .before .before .if2 .left)) (inv .2) (omega (arith, c .before .before .before .before .before .before .before .before .before .before .before .before .before .before .before .before .before .before .before .before .before .before .before .before .before .before .before .before .before .before .before .before .before .before .before .before .before .before .before .before .before .before .before .before .before .before .before .before .before .if1 .left, inv .4)) (c .before .before .before .before .before .before .before .before .before .before .before .wrapping-add-u64 .ensures) _ _ _ _ _ _ t (c .before .before .before .before .before .tell .ensures), t .ready, search needs, omega (arith, inv .3, c .before .before .before .before .before .before .before .before .before .before .before .before .before .before .before .before .before .before .before .before .before .before .before .before .before .before .before .before .before .before .before .before .before .before .before .before .before .before .before .before .before .before .held2 .given), omega (arith, inv .4, c .before .before .before .before .out .given), omega (arith, inv .5, c .before .before .before .before .before .before .before .before .before .before .before .before .before .before .scratch .given), line-starts (c .before .before .before .before .before .before .before .before .before .before .before .before .before .before .before .before .before .before .before .before .before .before .before .before .before .before .before .before .before .before .before .before .before .before .before .before .before .before .before .before .before .before .before .before .before .before .before .before .before .before .before .before .before .before .before .before .before .before .args .input .now) (c .before .before .before .before .before .before .before .before .before .before .before .before .before .before .before .before .before .before .before .before .before .before .before .before .before .before .before .before .before .before .before .before .before .before .before .before .before .before .before .before .before .before .before .before .before .before .before .before .before .before .before .loop .i) _ (end .0) (end .1) (omega (arith, end .2, c .before .before .before .before .before .before .before .before .before .before .before .before .before .before .before .before .before .before .before .before .before .before .before .before .before .before .before .before .before .before .before .before .before .before .before .before .before .before .before .before .before .before .before .before .before .before .before .if2 .left)))
+loop-again-3 c = let n = c .before .before .before .before .before .before .before .before .before .before .before in let l = (before n) .before .before .before .before .before .before .before .before .before .before .before .before .before .before .before .before .before .before .before .before .before .before .before .before .before .before .before .read-request .ensures in let a = n .before .before .before .before .answer .ensures in let k = line-edited _ _ _ (l .0) (l .1) _ _ _ _ _ _ a _ _ (c .before .before .before .before .before .before .before .before .before .answered .given .1) _ (sees (before n)) in let g = again n _ _ _ _ _ _ (stored-taken (here (top (before n))) _ _ _ _ _ _ _ _ _ k (ap changeOf (c .before .edit2 .given .1)) refl) (c .before .before .before .before .before .tell .ensures) in let inv = top (before n) .loop .inv in (g .0, g .1, omega arith, omega (arith, inv .3, (before n) .before .before .before .before .before .before .before .before .before .before .before .before .before .before .before .before .before .before .before .before .before .before .before .before .before .before .held2 .given), omega (arith, inv .4, c .before .before .before .before .out .given), omega (arith, inv .5, n .before .before .before .scratch .given), g .2)
 
 enum-known-edit-3 : tie.Need-enum-known-edit-3 Inv-loop2 μ-loop2 Inv-loop3 μ-loop3 Inv-loop μ-loop
 enum-known-edit-3 c = search needs
 
 element-copy-out-changed : tie.Need-element-copy-out-changed Inv-loop2 μ-loop2 Inv-loop3 μ-loop3 Inv-loop μ-loop
-element-copy-out-changed c = let l = c .before .before .before .before .before .before .before .before .before .before .before .before .before .before .before .before .before .before .before .before .before .before .before .before .before .before .before .before .before .before .before .before .before .before .before .before .before .before .before .before .before .before .before .read-request .ensures in cpu-inside _ (line-edits _ _ _ (l .0) (l .1) _ _ _ _ _ _ (c .before .before .before .before .before .before .before .before .before .before .before .before .before .before .before .answer .ensures) _ _ (c .before .before .before .before .before .before .before .before .before .answered .given .1) .fits) _ _ _ (c .before .edit3 .given .1)
+element-copy-out-changed c = let n = c .before .before .before .before .before .before .before .before .before .before .before in let l = (before n) .before .before .before .before .before .before .before .before .before .before .before .before .before .before .before .before .before .before .before .before .before .before .before .before .before .before .before .read-request .ensures in let a = n .before .before .before .before .answer .ensures in cpu-inside _ (line-edits _ _ _ (l .0) (l .1) _ _ _ _ _ _ a _ _ (c .before .before .before .before .before .before .before .before .before .answered .given .1) .fits) _ _ _ (c .before .edit3 .given .1)
 
 element-write-changed : tie.Need-element-write-changed Inv-loop2 μ-loop2 Inv-loop3 μ-loop3 Inv-loop μ-loop
-element-write-changed c = let l = c .before .before .before .before .before .before .before .before .before .before .before .before .before .before .before .before .before .before .before .before .before .before .before .before .before .before .before .before .before .before .before .before .before .before .before .before .before .before .before .before .before .before .before .before .read-request .ensures in register-inside _ (line-edits _ _ _ (l .0) (l .1) _ _ _ _ _ _ (c .before .before .before .before .before .before .before .before .before .before .before .before .before .before .before .before .answer .ensures) _ _ (c .before .before .before .before .before .before .before .before .before .before .answered .given .1) .fits) _ _ _ (c .before .before .edit3 .given .1)
+element-write-changed c = let n = c .before .before .before .before .before .before .before .before .before .before .before .before in let l = (before n) .before .before .before .before .before .before .before .before .before .before .before .before .before .before .before .before .before .before .before .before .before .before .before .before .before .before .before .read-request .ensures in let a = n .before .before .before .before .answer .ensures in register-inside _ (line-edits _ _ _ (l .0) (l .1) _ _ _ _ _ _ a _ _ (c .before .before .before .before .before .before .before .before .before .before .answered .given .1) .fits) _ _ _ (c .before .before .edit3 .given .1)
 
 element-set-from-state : tie.Need-element-set-from-state Inv-loop2 μ-loop2 Inv-loop3 μ-loop3 Inv-loop μ-loop
-element-set-from-state c = let l = c .before .before .before .before .before .before .before .before .before .before .before .before .before .before .before .before .before .before .before .before .before .before .before .before .before .before .before .before .before .before .before .before .before .before .before .before .before .before .before .before .before .before .before .before .read-request .ensures in cpu-inside _ (line-edits _ _ _ (l .0) (l .1) _ _ _ _ _ _ (c .before .before .before .before .before .before .before .before .before .before .before .before .before .before .before .before .answer .ensures) _ _ (c .before .before .before .before .before .before .before .before .before .before .answered .given .1) .fits) _ _ _ (c .before .before .edit3 .given .1)
+element-set-from-state c = let n = c .before .before .before .before .before .before .before .before .before .before .before .before in let l = (before n) .before .before .before .before .before .before .before .before .before .before .before .before .before .before .before .before .before .before .before .before .before .before .before .before .before .before .before .read-request .ensures in let a = n .before .before .before .before .answer .ensures in cpu-inside _ (line-edits _ _ _ (l .0) (l .1) _ _ _ _ _ _ a _ _ (c .before .before .before .before .before .before .before .before .before .before .answered .given .1) .fits) _ _ _ (c .before .before .edit3 .given .1)
 
 loop-less-4 : tie.Need-loop-less-4 Inv-loop2 μ-loop2 Inv-loop3 μ-loop3 Inv-loop μ-loop
 loop-less-4 c = omega (arith, c .before .before .before .before .before .before .before .before .before .before .before .before .before .before .before .before .before .before .before .before .before .before .before .before .before .before .before .before .before .before .before .before .before .before .before .before .before .before .before .before .before .before .before .before .before .before .before .before .before .line-end .ensures .1, c .before .before .before .before .before .before .before .before .before .before .before .before .before .before .before .before .before .before .before .before .before .before .before .before .before .before .before .before .before .before .before .before .before .before .before .before .before .before .before .before .before .before .before .before .before .before .before .before .before .before .before .loop-test .taken)
 
 loop-again-4 : tie.Need-loop-again-4 Inv-loop2 μ-loop2 Inv-loop3 μ-loop3 Inv-loop μ-loop
 unfolding changeOf
-loop-again-4 c = let l = c .before .before .before .before .before .before .before .before .before .before .before .before .before .before .before .before .before .before .before .before .before .before .before .before .before .before .before .before .before .before .before .before .before .before .before .before .before .before .before .before .before .before .before .before .read-request .ensures in let inv = c .before .before .before .before .before .before .before .before .before .before .before .before .before .before .before .before .before .before .before .before .before .before .before .before .before .before .before .before .before .before .before .before .before .before .before .before .before .before .before .before .before .before .before .before .before .before .before .before .before .before .before .before .loop .inv in let end = c .before .before .before .before .before .before .before .before .before .before .before .before .before .before .before .before .before .before .before .before .before .before .before .before .before .before .before .before .before .before .before .before .before .before .before .before .before .before .before .before .before .before .before .before .before .before .before .before .before .line-end .ensures in let k = line-edited _ _ _ (l .0) (l .1) _ _ _ _ _ _ (c .before .before .before .before .before .before .before .before .before .before .before .before .before .before .before .before .answer .ensures) _ _ (c .before .before .before .before .before .before .before .before .before .before .answered .given .1) _ (sees (c .before .before .before .before .before .before .before .before .before .before .before .before .before .before .before .before .before)) in let t = stored-taken (here (c .before .before .before .before .before .before .before .before .before .before .before .before .before .before .before .before .before)) _ _ _ _ _ _ _ _ _ k (ap changeOf (c .before .before .edit3 .given .1)) refl in (turned _ (record { begun = c .before .before .before .before .before .before .before .before .before .before .before .before .before .before .before .before .before .before .before .before .before .before .before .before .before .before .before .before .before .before .before .before .before .before .before .before .before .before .before .before .before .before .before .before .before .before .before .before .before .before .before .before .loop .begun; ready = c .before .before .before .before .before .before .before .before .before .before .before .before .before .before .before .before .before .before .before .before .before .before .before .before .before .before .before .before .before .before .before .before .before .before .before .before .before .before .before .before .before .before .before .before .before .before .before .before .before .before .before .before .loop .ready; state = c .before .before .before .before .before .before .before .before .before .before .before .before .before .before .before .before .before .before .before .before .before .before .before .before .before .before .before .before .before .before .before .before .before .before .before .before .before .before .before .before .before .before .before .before .before .before .before .before .before .before .before .before .loop .state }) (c .before .before .before .before .before .before .before .before .before .before .before .before .before .before .before .before .before .before .before .before .before .before .before .before .before .before .before .before .before .before .before .before .before .before .before .before .before .before .before .before .before .before .before .before .before .before .before .before .before .before .before .before .before .before .before .before .before .before .before .args .input .now) (c .before .before .before .before .before .before .before .before .before .before .before .before .before .before .before .before .before .before .before .before .before .before .before .before .before .before .before .before .before .before .before .before .before .before .before .before .before .before .before .before .before .before .before .before .before .before .before .before .before .before .before .before .before .before .before .before .before .before .before .args .out .now) _ _ (c .before .before .before .before .before .before .before .before .before .before .before .before .before .before .before .before .before .before .before .before .before .before .before .before .before .before .before .before .before .before .before .before .before .before .before .before .before .before .before .before .before .before .before .before .before .before .before .before .before .before .before .before .loop .held) (c .before .before .before .before .before .before .before .before .before .before .before .before .before .before .before .before .before .before .before .before .before .before .before .before .before .before .before .before .before .before .before .before .before .before .before .before .before .before .before .before .before .before .before .before .before .before .before .before .before .before .before .before .loop .i) _ _ _ _ (c .before .before .before .before .before .before .before .before .before .before .before .before .before .before .before .before .before .before .before .before .before .before .before .before .before .before .before .before .before .before .before .before .before .before .before .before .before .before .before .before .before .before .before .before .before .before .before .before .before .before .before .before .loop .have) (inv .0) (end .0) (end .1) (omega (arith, end .2, c .before .before .before .before .before .before .before .before .before .before .before .before .before .before .before .before .before .before .before .before .before .before .before .before .before .before .before .before .before .before .before .before .before .before .before .before .before .before .before .before .before .before .before .before .before .before .before .before .if2 .left)) (inv .2) (omega (arith, c .before .before .before .before .before .before .before .before .before .before .before .before .before .before .before .before .before .before .before .before .before .before .before .before .before .before .before .before .before .before .before .before .before .before .before .before .before .before .before .before .before .before .before .before .before .before .before .before .before .before .if1 .left, inv .4)) (c .before .before .before .before .before .before .before .before .before .before .before .before .wrapping-add-u64 .ensures) _ _ _ _ _ _ t (c .before .before .before .before .before .before .tell .ensures), t .ready, search needs, omega (arith, inv .3, c .before .before .before .before .before .before .before .before .before .before .before .before .before .before .before .before .before .before .before .before .before .before .before .before .before .before .before .before .before .before .before .before .before .before .before .before .before .before .before .before .before .before .before .held2 .given), omega (arith, inv .4, c .before .before .before .before .before .out .given), omega (arith, inv .5, c .before .before .before .before .before .before .before .before .before .before .before .before .before .before .before .scratch .given), line-starts (c .before .before .before .before .before .before .before .before .before .before .before .before .before .before .before .before .before .before .before .before .before .before .before .before .before .before .before .before .before .before .before .before .before .before .before .before .before .before .before .before .before .before .before .before .before .before .before .before .before .before .before .before .before .before .before .before .before .before .before .args .input .now) (c .before .before .before .before .before .before .before .before .before .before .before .before .before .before .before .before .before .before .before .before .before .before .before .before .before .before .before .before .before .before .before .before .before .before .before .before .before .before .before .before .before .before .before .before .before .before .before .before .before .before .before .before .loop .i) _ (end .0) (end .1) (omega (arith, end .2, c .before .before .before .before .before .before .before .before .before .before .before .before .before .before .before .before .before .before .before .before .before .before .before .before .before .before .before .before .before .before .before .before .before .before .before .before .before .before .before .before .before .before .before .before .before .before .before .before .if2 .left)))
+loop-again-4 c = let n = c .before .before .before .before .before .before .before .before .before .before .before .before in let l = (before n) .before .before .before .before .before .before .before .before .before .before .before .before .before .before .before .before .before .before .before .before .before .before .before .before .before .before .before .read-request .ensures in let a = n .before .before .before .before .answer .ensures in let k = line-edited _ _ _ (l .0) (l .1) _ _ _ _ _ _ a _ _ (c .before .before .before .before .before .before .before .before .before .before .answered .given .1) _ (sees (before n)) in let g = again n _ _ _ _ _ _ (stored-taken (here (top (before n))) _ _ _ _ _ _ _ _ _ k (ap changeOf (c .before .before .edit3 .given .1)) refl) (c .before .before .before .before .before .before .tell .ensures) in let inv = top (before n) .loop .inv in (g .0, g .1, omega arith, omega (arith, inv .3, (before n) .before .before .before .before .before .before .before .before .before .before .before .before .before .before .before .before .before .before .before .before .before .before .before .before .before .before .held2 .given), omega (arith, inv .4, c .before .before .before .before .before .out .given), omega (arith, inv .5, n .before .before .before .scratch .given), g .2)
 
 enum-known-edit-4 : tie.Need-enum-known-edit-4 Inv-loop2 μ-loop2 Inv-loop3 μ-loop3 Inv-loop μ-loop
 enum-known-edit-4 c = search needs
 
 element-copy-out-changed-2 : tie.Need-element-copy-out-changed-2 Inv-loop2 μ-loop2 Inv-loop3 μ-loop3 Inv-loop μ-loop
-element-copy-out-changed-2 c = let l = c .before .before .before .before .before .before .before .before .before .before .before .before .before .before .before .before .before .before .before .before .before .before .before .before .before .before .before .before .before .before .before .before .before .before .before .before .before .before .before .before .before .before .before .read-request .ensures in mode-inside _ (line-edits _ _ _ (l .0) (l .1) _ _ _ _ _ _ (c .before .before .before .before .before .before .before .before .before .before .before .before .before .before .before .answer .ensures) _ _ (c .before .before .before .before .before .before .before .before .before .answered .given .1) .fits) _ _ (c .before .edit4 .given .1)
+element-copy-out-changed-2 c = let n = c .before .before .before .before .before .before .before .before .before .before .before in let l = (before n) .before .before .before .before .before .before .before .before .before .before .before .before .before .before .before .before .before .before .before .before .before .before .before .before .before .before .before .read-request .ensures in let a = n .before .before .before .before .answer .ensures in mode-inside _ (line-edits _ _ _ (l .0) (l .1) _ _ _ _ _ _ a _ _ (c .before .before .before .before .before .before .before .before .before .answered .given .1) .fits) _ _ (c .before .edit4 .given .1)
 
 element-set-from-changed : tie.Need-element-set-from-changed Inv-loop2 μ-loop2 Inv-loop3 μ-loop3 Inv-loop μ-loop
-element-set-from-changed c = let l = c .before .before .before .before .before .before .before .before .before .before .before .before .before .before .before .before .before .before .before .before .before .before .before .before .before .before .before .before .before .before .before .before .before .before .before .before .before .before .before .before .before .before .before .before .read-request .ensures in mode-inside _ (line-edits _ _ _ (l .0) (l .1) _ _ _ _ _ _ (c .before .before .before .before .before .before .before .before .before .before .before .before .before .before .before .before .answer .ensures) _ _ (c .before .before .before .before .before .before .before .before .before .before .answered .given .1) .fits) _ _ (c .before .before .edit4 .given .1)
+element-set-from-changed c = let n = c .before .before .before .before .before .before .before .before .before .before .before .before in let l = (before n) .before .before .before .before .before .before .before .before .before .before .before .before .before .before .before .before .before .before .before .before .before .before .before .before .before .before .before .read-request .ensures in let a = n .before .before .before .before .answer .ensures in mode-inside _ (line-edits _ _ _ (l .0) (l .1) _ _ _ _ _ _ a _ _ (c .before .before .before .before .before .before .before .before .before .before .answered .given .1) .fits) _ _ (c .before .before .edit4 .given .1)
 
 loop-less-5 : tie.Need-loop-less-5 Inv-loop2 μ-loop2 Inv-loop3 μ-loop3 Inv-loop μ-loop
 loop-less-5 c = omega (arith, c .before .before .before .before .before .before .before .before .before .before .before .before .before .before .before .before .before .before .before .before .before .before .before .before .before .before .before .before .before .before .before .before .before .before .before .before .before .before .before .before .before .before .before .before .before .before .before .before .before .line-end .ensures .1, c .before .before .before .before .before .before .before .before .before .before .before .before .before .before .before .before .before .before .before .before .before .before .before .before .before .before .before .before .before .before .before .before .before .before .before .before .before .before .before .before .before .before .before .before .before .before .before .before .before .before .before .loop-test .taken)
 
 loop-again-5 : tie.Need-loop-again-5 Inv-loop2 μ-loop2 Inv-loop3 μ-loop3 Inv-loop μ-loop
 unfolding changeOf
-loop-again-5 c = let l = c .before .before .before .before .before .before .before .before .before .before .before .before .before .before .before .before .before .before .before .before .before .before .before .before .before .before .before .before .before .before .before .before .before .before .before .before .before .before .before .before .before .before .before .before .read-request .ensures in let inv = c .before .before .before .before .before .before .before .before .before .before .before .before .before .before .before .before .before .before .before .before .before .before .before .before .before .before .before .before .before .before .before .before .before .before .before .before .before .before .before .before .before .before .before .before .before .before .before .before .before .before .before .before .loop .inv in let end = c .before .before .before .before .before .before .before .before .before .before .before .before .before .before .before .before .before .before .before .before .before .before .before .before .before .before .before .before .before .before .before .before .before .before .before .before .before .before .before .before .before .before .before .before .before .before .before .before .before .line-end .ensures in let k = line-edited _ _ _ (l .0) (l .1) _ _ _ _ _ _ (c .before .before .before .before .before .before .before .before .before .before .before .before .before .before .before .before .answer .ensures) _ _ (c .before .before .before .before .before .before .before .before .before .before .answered .given .1) _ (sees (c .before .before .before .before .before .before .before .before .before .before .before .before .before .before .before .before .before)) in let t = stored-taken (here (c .before .before .before .before .before .before .before .before .before .before .before .before .before .before .before .before .before)) _ _ _ _ _ _ _ _ _ k (ap changeOf (c .before .before .edit4 .given .1)) refl in (turned _ (record { begun = c .before .before .before .before .before .before .before .before .before .before .before .before .before .before .before .before .before .before .before .before .before .before .before .before .before .before .before .before .before .before .before .before .before .before .before .before .before .before .before .before .before .before .before .before .before .before .before .before .before .before .before .before .loop .begun; ready = c .before .before .before .before .before .before .before .before .before .before .before .before .before .before .before .before .before .before .before .before .before .before .before .before .before .before .before .before .before .before .before .before .before .before .before .before .before .before .before .before .before .before .before .before .before .before .before .before .before .before .before .before .loop .ready; state = c .before .before .before .before .before .before .before .before .before .before .before .before .before .before .before .before .before .before .before .before .before .before .before .before .before .before .before .before .before .before .before .before .before .before .before .before .before .before .before .before .before .before .before .before .before .before .before .before .before .before .before .before .loop .state }) (c .before .before .before .before .before .before .before .before .before .before .before .before .before .before .before .before .before .before .before .before .before .before .before .before .before .before .before .before .before .before .before .before .before .before .before .before .before .before .before .before .before .before .before .before .before .before .before .before .before .before .before .before .before .before .before .before .before .before .before .args .input .now) (c .before .before .before .before .before .before .before .before .before .before .before .before .before .before .before .before .before .before .before .before .before .before .before .before .before .before .before .before .before .before .before .before .before .before .before .before .before .before .before .before .before .before .before .before .before .before .before .before .before .before .before .before .before .before .before .before .before .before .before .args .out .now) _ _ (c .before .before .before .before .before .before .before .before .before .before .before .before .before .before .before .before .before .before .before .before .before .before .before .before .before .before .before .before .before .before .before .before .before .before .before .before .before .before .before .before .before .before .before .before .before .before .before .before .before .before .before .before .loop .held) (c .before .before .before .before .before .before .before .before .before .before .before .before .before .before .before .before .before .before .before .before .before .before .before .before .before .before .before .before .before .before .before .before .before .before .before .before .before .before .before .before .before .before .before .before .before .before .before .before .before .before .before .before .loop .i) _ _ _ _ (c .before .before .before .before .before .before .before .before .before .before .before .before .before .before .before .before .before .before .before .before .before .before .before .before .before .before .before .before .before .before .before .before .before .before .before .before .before .before .before .before .before .before .before .before .before .before .before .before .before .before .before .before .loop .have) (inv .0) (end .0) (end .1) (omega (arith, end .2, c .before .before .before .before .before .before .before .before .before .before .before .before .before .before .before .before .before .before .before .before .before .before .before .before .before .before .before .before .before .before .before .before .before .before .before .before .before .before .before .before .before .before .before .before .before .before .before .before .if2 .left)) (inv .2) (omega (arith, c .before .before .before .before .before .before .before .before .before .before .before .before .before .before .before .before .before .before .before .before .before .before .before .before .before .before .before .before .before .before .before .before .before .before .before .before .before .before .before .before .before .before .before .before .before .before .before .before .before .before .if1 .left, inv .4)) (c .before .before .before .before .before .before .before .before .before .before .before .before .wrapping-add-u64 .ensures) _ _ _ _ _ _ t (c .before .before .before .before .before .before .tell .ensures), t .ready, search needs, omega (arith, inv .3, c .before .before .before .before .before .before .before .before .before .before .before .before .before .before .before .before .before .before .before .before .before .before .before .before .before .before .before .before .before .before .before .before .before .before .before .before .before .before .before .before .before .before .before .held2 .given), omega (arith, inv .4, c .before .before .before .before .before .out .given), omega (arith, inv .5, c .before .before .before .before .before .before .before .before .before .before .before .before .before .before .before .scratch .given), line-starts (c .before .before .before .before .before .before .before .before .before .before .before .before .before .before .before .before .before .before .before .before .before .before .before .before .before .before .before .before .before .before .before .before .before .before .before .before .before .before .before .before .before .before .before .before .before .before .before .before .before .before .before .before .before .before .before .before .before .before .before .args .input .now) (c .before .before .before .before .before .before .before .before .before .before .before .before .before .before .before .before .before .before .before .before .before .before .before .before .before .before .before .before .before .before .before .before .before .before .before .before .before .before .before .before .before .before .before .before .before .before .before .before .before .before .before .before .loop .i) _ (end .0) (end .1) (omega (arith, end .2, c .before .before .before .before .before .before .before .before .before .before .before .before .before .before .before .before .before .before .before .before .before .before .before .before .before .before .before .before .before .before .before .before .before .before .before .before .before .before .before .before .before .before .before .before .before .before .before .before .if2 .left)))
+loop-again-5 c = let n = c .before .before .before .before .before .before .before .before .before .before .before .before in let l = (before n) .before .before .before .before .before .before .before .before .before .before .before .before .before .before .before .before .before .before .before .before .before .before .before .before .before .before .before .read-request .ensures in let a = n .before .before .before .before .answer .ensures in let k = line-edited _ _ _ (l .0) (l .1) _ _ _ _ _ _ a _ _ (c .before .before .before .before .before .before .before .before .before .before .answered .given .1) _ (sees (before n)) in let g = again n _ _ _ _ _ _ (stored-taken (here (top (before n))) _ _ _ _ _ _ _ _ _ k (ap changeOf (c .before .before .edit4 .given .1)) refl) (c .before .before .before .before .before .before .tell .ensures) in let inv = top (before n) .loop .inv in (g .0, g .1, omega arith, omega (arith, inv .3, (before n) .before .before .before .before .before .before .before .before .before .before .before .before .before .before .before .before .before .before .before .before .before .before .before .before .before .before .held2 .given), omega (arith, inv .4, c .before .before .before .before .before .out .given), omega (arith, inv .5, n .before .before .before .scratch .given), g .2)
 
 enum-known-answered-2 : tie.Need-enum-known-answered-2 Inv-loop2 μ-loop2 Inv-loop3 μ-loop3 Inv-loop μ-loop
 enum-known-answered-2 c = search needs
@@ -239,28 +144,28 @@ slice-aggregate-tell-2 : tie.Need-slice-aggregate-tell-2 Inv-loop2 μ-loop2 Inv-
 slice-aggregate-tell-2 c = search needs
 
 tell-requires-2 : tie.Need-tell-requires-2 Inv-loop2 μ-loop2 Inv-loop3 μ-loop3 Inv-loop μ-loop
-tell-requires-2 c κs = let l = c .before .before .before .before .before .before .before .before .before .before .before .before .before .before .before .before .before .before .before .before .before .before .before .before .before .before .before .before .before .before .before .before .before .before .before .before .before .read-request .ensures in (omega (arith, c .before .before .before .before .before .before .before .before .before .before .before .before .before .before .before .before .before .before .before .before .before .before .before .before .before .before .before .before .before .before .before .before .before .before .before .before .before .before .before .before .before .before .before .if1 .left), line-closes _ _ _ (l .0) (l .1) _ _ _ _ _ _ (c .before .before .before .before .before .before .before .before .before .answer .ensures) _ _ (c .before .before .before .answered2 .given .1) .answered .moved, omega (arith, c .before .before .before .before .before .before .buffer3 .given))
+tell-requires-2 c κs = let n = c .before .before .before .before .before in let l = (before n) .before .before .before .before .before .before .before .before .before .before .before .before .before .before .before .before .before .before .before .before .before .before .before .before .before .before .before .read-request .ensures in let a = n .before .before .before .before .answer .ensures in (omega (arith, c .before .before .before .before .before .before .before .before .before .before .before .before .before .before .before .before .before .before .before .before .before .before .before .before .before .before .before .before .before .before .before .before .before .before .before .before .before .before .before .before .before .before .before .if1 .left), line-closes _ _ _ (l .0) (l .1) _ _ _ _ _ _ a _ _ (c .before .before .before .answered2 .given .1) .answered .moved, omega (arith, c .before .before .before .before .before .before .buffer3 .given))
 
 element-copy-out-x-2 : tie.Need-element-copy-out-x-2 Inv-loop2 μ-loop2 Inv-loop3 μ-loop3 Inv-loop μ-loop
-element-copy-out-x-2 c = let l = c .before .before .before .before .before .before .before .before .before .before .before .before .before .before .before .before .before .before .before .before .before .before .before .before .before .before .before .before .before .before .before .before .before .before .before .before .before .before .before .before .read-request .ensures in line-closes _ _ _ (l .0) (l .1) _ _ _ _ _ _ (c .before .before .before .before .before .before .before .before .before .before .before .before .answer .ensures) _ _ (c .before .before .before .before .before .before .answered2 .given .1) .low
+element-copy-out-x-2 c = let n = c .before .before .before .before .before .before .before .before in let l = (before n) .before .before .before .before .before .before .before .before .before .before .before .before .before .before .before .before .before .before .before .before .before .before .before .before .before .before .before .read-request .ensures in let a = n .before .before .before .before .answer .ensures in line-closes _ _ _ (l .0) (l .1) _ _ _ _ _ _ a _ _ (c .before .before .before .before .before .before .answered2 .given .1) .low
 
 permits-without-requires : tie.Need-permits-without-requires Inv-loop2 μ-loop2 Inv-loop3 μ-loop3 Inv-loop μ-loop
-permits-without-requires c κs = let l = c .before .before .before .before .before .before .before .before .before .before .before .before .before .before .before .before .before .before .before .before .before .before .before .before .before .before .before .before .before .before .before .before .before .before .before .before .before .before .before .before .before .before .read-request .ensures in line-closes _ _ _ (l .0) (l .1) _ _ _ _ _ _ (c .before .before .before .before .before .before .before .before .before .before .before .before .before .before .answer .ensures) _ _ (c .before .before .before .before .before .before .before .before .answered2 .given .1) .low
+permits-without-requires c κs = let n = c .before .before .before .before .before .before .before .before .before .before in let l = (before n) .before .before .before .before .before .before .before .before .before .before .before .before .before .before .before .before .before .before .before .before .before .before .before .before .before .before .before .read-request .ensures in let a = n .before .before .before .before .answer .ensures in line-closes _ _ _ (l .0) (l .1) _ _ _ _ _ _ a _ _ (c .before .before .before .before .before .before .before .before .answered2 .given .1) .low
 
 entries-without-requires : tie.Need-entries-without-requires Inv-loop2 μ-loop2 Inv-loop3 μ-loop3 Inv-loop μ-loop
-entries-without-requires c κs = let l = c .before .before .before .before .before .before .before .before .before .before .before .before .before .before .before .before .before .before .before .before .before .before .before .before .before .before .before .before .before .before .before .before .before .before .before .before .before .before .before .before .before .before .before .before .read-request .ensures in line-closes _ _ _ (l .0) (l .1) _ _ _ _ _ _ (c .before .before .before .before .before .before .before .before .before .before .before .before .before .before .before .before .answer .ensures) _ _ (c .before .before .before .before .before .before .before .before .before .before .answered2 .given .1) .low
+entries-without-requires c κs = let n = c .before .before .before .before .before .before .before .before .before .before .before .before in let l = (before n) .before .before .before .before .before .before .before .before .before .before .before .before .before .before .before .before .before .before .before .before .before .before .before .before .before .before .before .read-request .ensures in let a = n .before .before .before .before .answer .ensures in line-closes _ _ _ (l .0) (l .1) _ _ _ _ _ _ a _ _ (c .before .before .before .before .before .before .before .before .before .before .answered2 .given .1) .low
 
 loop-less-6 : tie.Need-loop-less-6 Inv-loop2 μ-loop2 Inv-loop3 μ-loop3 Inv-loop μ-loop
 loop-less-6 c = omega (arith, c .before .before .before .before .before .before .before .before .before .before .before .before .before .before .before .before .before .before .before .before .before .before .before .before .before .before .before .before .before .before .before .before .before .before .before .before .before .before .before .before .before .before .before .before .before .before .before .before .before .before .line-end .ensures .1, c .before .before .before .before .before .before .before .before .before .before .before .before .before .before .before .before .before .before .before .before .before .before .before .before .before .before .before .before .before .before .before .before .before .before .before .before .before .before .before .before .before .before .before .before .before .before .before .before .before .before .before .before .loop-test .taken)
 
 loop-again-6 : tie.Need-loop-again-6 Inv-loop2 μ-loop2 Inv-loop3 μ-loop3 Inv-loop μ-loop
-loop-again-6 c = let l = c .before .before .before .before .before .before .before .before .before .before .before .before .before .before .before .before .before .before .before .before .before .before .before .before .before .before .before .before .before .before .before .before .before .before .before .before .before .before .before .before .before .before .before .before .before .read-request .ensures in let inv = c .before .before .before .before .before .before .before .before .before .before .before .before .before .before .before .before .before .before .before .before .before .before .before .before .before .before .before .before .before .before .before .before .before .before .before .before .before .before .before .before .before .before .before .before .before .before .before .before .before .before .before .before .before .loop .inv in let end = c .before .before .before .before .before .before .before .before .before .before .before .before .before .before .before .before .before .before .before .before .before .before .before .before .before .before .before .before .before .before .before .before .before .before .before .before .before .before .before .before .before .before .before .before .before .before .before .before .before .before .line-end .ensures in let k = line-closed _ _ _ (l .0) (l .1) _ _ _ _ _ _ (c .before .before .before .before .before .before .before .before .before .before .before .before .before .before .before .before .before .answer .ensures) _ _ (c .before .before .before .before .before .before .before .before .before .before .before .answered2 .given .1) _ (sees (c .before .before .before .before .before .before .before .before .before .before .before .before .before .before .before .before .before .before)) in let slot = c .before .before .before .before .before .before .before .before .before .before .before .answered2 .given .0 .1 .0 in let t = stored-taken (here (c .before .before .before .before .before .before .before .before .before .before .before .before .before .before .before .before .before .before)) _ _ _ _ _ _ _ (IsolateSpace slot) (IsolateSpace slot) k refl (isolated-by _ _ _ _ _ _ refl (c .before .before .permits-without .ensures) (c .entries-without .ensures) refl) in (turned _ (record { begun = c .before .before .before .before .before .before .before .before .before .before .before .before .before .before .before .before .before .before .before .before .before .before .before .before .before .before .before .before .before .before .before .before .before .before .before .before .before .before .before .before .before .before .before .before .before .before .before .before .before .before .before .before .before .loop .begun; ready = c .before .before .before .before .before .before .before .before .before .before .before .before .before .before .before .before .before .before .before .before .before .before .before .before .before .before .before .before .before .before .before .before .before .before .before .before .before .before .before .before .before .before .before .before .before .before .before .before .before .before .before .before .before .loop .ready; state = c .before .before .before .before .before .before .before .before .before .before .before .before .before .before .before .before .before .before .before .before .before .before .before .before .before .before .before .before .before .before .before .before .before .before .before .before .before .before .before .before .before .before .before .before .before .before .before .before .before .before .before .before .before .loop .state }) (c .before .before .before .before .before .before .before .before .before .before .before .before .before .before .before .before .before .before .before .before .before .before .before .before .before .before .before .before .before .before .before .before .before .before .before .before .before .before .before .before .before .before .before .before .before .before .before .before .before .before .before .before .before .before .before .before .before .before .before .before .args .input .now) (c .before .before .before .before .before .before .before .before .before .before .before .before .before .before .before .before .before .before .before .before .before .before .before .before .before .before .before .before .before .before .before .before .before .before .before .before .before .before .before .before .before .before .before .before .before .before .before .before .before .before .before .before .before .before .before .before .before .before .before .before .args .out .now) _ _ (c .before .before .before .before .before .before .before .before .before .before .before .before .before .before .before .before .before .before .before .before .before .before .before .before .before .before .before .before .before .before .before .before .before .before .before .before .before .before .before .before .before .before .before .before .before .before .before .before .before .before .before .before .before .loop .held) (c .before .before .before .before .before .before .before .before .before .before .before .before .before .before .before .before .before .before .before .before .before .before .before .before .before .before .before .before .before .before .before .before .before .before .before .before .before .before .before .before .before .before .before .before .before .before .before .before .before .before .before .before .before .loop .i) _ _ _ _ (c .before .before .before .before .before .before .before .before .before .before .before .before .before .before .before .before .before .before .before .before .before .before .before .before .before .before .before .before .before .before .before .before .before .before .before .before .before .before .before .before .before .before .before .before .before .before .before .before .before .before .before .before .before .loop .have) (inv .0) (end .0) (end .1) (omega (arith, end .2, c .before .before .before .before .before .before .before .before .before .before .before .before .before .before .before .before .before .before .before .before .before .before .before .before .before .before .before .before .before .before .before .before .before .before .before .before .before .before .before .before .before .before .before .before .before .before .before .before .before .if2 .left)) (inv .2) (omega (arith, c .before .before .before .before .before .before .before .before .before .before .before .before .before .before .before .before .before .before .before .before .before .before .before .before .before .before .before .before .before .before .before .before .before .before .before .before .before .before .before .before .before .before .before .before .before .before .before .before .before .before .before .if1 .left, inv .4)) (c .before .before .before .before .before .before .before .before .before .before .before .before .before .wrapping-add-u64 .ensures) _ _ _ _ _ _ t (c .before .before .before .before .before .before .before .tell2 .ensures), t .ready, search needs, omega (arith, inv .3, c .before .before .before .before .before .before .before .before .before .before .before .before .before .before .before .before .before .before .before .before .before .before .before .before .before .before .before .before .before .before .before .before .before .before .before .before .before .before .before .before .before .before .before .before .held2 .given), omega (arith, inv .4, c .before .before .before .before .before .before .out2 .given), omega (arith, inv .5, c .before .before .before .before .before .before .before .before .before .before .before .before .before .before .before .before .scratch .given), line-starts (c .before .before .before .before .before .before .before .before .before .before .before .before .before .before .before .before .before .before .before .before .before .before .before .before .before .before .before .before .before .before .before .before .before .before .before .before .before .before .before .before .before .before .before .before .before .before .before .before .before .before .before .before .before .before .before .before .before .before .before .before .args .input .now) (c .before .before .before .before .before .before .before .before .before .before .before .before .before .before .before .before .before .before .before .before .before .before .before .before .before .before .before .before .before .before .before .before .before .before .before .before .before .before .before .before .before .before .before .before .before .before .before .before .before .before .before .before .before .loop .i) _ (end .0) (end .1) (omega (arith, end .2, c .before .before .before .before .before .before .before .before .before .before .before .before .before .before .before .before .before .before .before .before .before .before .before .before .before .before .before .before .before .before .before .before .before .before .before .before .before .before .before .before .before .before .before .before .before .before .before .before .before .if2 .left)))
+loop-again-6 c = let n = c .before .before .before .before .before .before .before .before .before .before .before .before .before in let l = (before n) .before .before .before .before .before .before .before .before .before .before .before .before .before .before .before .before .before .before .before .before .before .before .before .before .before .before .before .read-request .ensures in let a = n .before .before .before .before .answer .ensures in let k = line-closed _ _ _ (l .0) (l .1) _ _ _ _ _ _ a _ _ (c .before .before .before .before .before .before .before .before .before .before .before .answered2 .given .1) _ (sees (before n)) in let slot = c .before .before .before .before .before .before .before .before .before .before .before .answered2 .given .0 .1 .0 in let g = again n _ _ _ _ _ _ (stored-taken (here (top (before n))) _ _ _ _ _ _ _ (IsolateSpace slot) (IsolateSpace slot) k refl (isolated-by _ _ _ _ _ _ refl (c .before .before .permits-without .ensures) (c .entries-without .ensures) refl)) (c .before .before .before .before .before .before .before .tell2 .ensures) in let inv = top (before n) .loop .inv in (g .0, g .1, omega arith, omega (arith, inv .3, (before n) .before .before .before .before .before .before .before .before .before .before .before .before .before .before .before .before .before .before .before .before .before .before .before .before .before .before .held2 .given), omega (arith, inv .4, c .before .before .before .before .before .before .out2 .given), omega (arith, inv .5, n .before .before .before .scratch .given), g .2)
 
 enum-told-2 : tie.Need-enum-told-2 Inv-loop2 μ-loop2 Inv-loop3 μ-loop3 Inv-loop μ-loop
 enum-told-2 c = search needs
 
 change-requires : tie.Need-change-requires Inv-loop2 μ-loop2 Inv-loop3 μ-loop3 Inv-loop μ-loop
-change-requires c κs = let l = c .before .before .before .before .before .before .before .before .before .before .before .before .before .before .before .before .before .before .before .before .before .before .before .before .before .before .before .before .before .before .before .before .before .before .before .read-request .ensures in (line-waits _ _ _ (l .0) (l .1) _ _ _ _ _ _ (c .before .before .before .before .before .before .before .answer .ensures) (c .before .enum-told2 .given .1), line-ready _ _ _ (l .0) (l .1) _ _ _ _ _ _ (c .before .before .before .before .before .before .before .answer .ensures) (c .before .enum-told2 .given .1) _ (c .before .before .before .before .before .before .before .before .before .before .before .before .before .before .before .before .before .before .before .before .before .before .before .before .before .before .before .before .before .before .before .before .before .before .before .before .before .before .before .before .before .before .before .loop .inv .1))
+change-requires c κs = let n = c .before .before .before in let l = (before n) .before .before .before .before .before .before .before .before .before .before .before .before .before .before .before .before .before .before .before .before .before .before .before .before .before .before .before .read-request .ensures in let a = n .before .before .before .before .answer .ensures in (line-waits _ _ _ (l .0) (l .1) _ _ _ _ _ _ a (c .before .enum-told2 .given .1), line-ready _ _ _ (l .0) (l .1) _ _ _ _ _ _ a (c .before .enum-told2 .given .1) _ (top (before n) .loop .inv .1))
 
 slice-aggregate-tell-3 : tie.Need-slice-aggregate-tell-3 Inv-loop2 μ-loop2 Inv-loop3 μ-loop3 Inv-loop μ-loop
 slice-aggregate-tell-3 c = search needs
@@ -272,7 +177,7 @@ loop-less-7 : tie.Need-loop-less-7 Inv-loop2 μ-loop2 Inv-loop3 μ-loop3 Inv-loo
 loop-less-7 c = omega (arith, c .before .before .before .before .before .before .before .before .before .before .before .before .before .before .before .before .before .before .before .before .before .before .before .before .before .before .before .before .before .before .before .before .before .before .before .before .before .before .before .before .before .before .before .before .before .before .before .before .before .before .line-end .ensures .1, c .before .before .before .before .before .before .before .before .before .before .before .before .before .before .before .before .before .before .before .before .before .before .before .before .before .before .before .before .before .before .before .before .before .before .before .before .before .before .before .before .before .before .before .before .before .before .before .before .before .before .before .before .loop-test .taken)
 
 loop-again-7 : tie.Need-loop-again-7 Inv-loop2 μ-loop2 Inv-loop3 μ-loop3 Inv-loop μ-loop
-loop-again-7 c = let l = c .before .before .before .before .before .before .before .before .before .before .before .before .before .before .before .before .before .before .before .before .before .before .before .before .before .before .before .before .before .before .before .before .before .before .before .before .before .before .before .before .before .before .before .before .before .read-request .ensures in let inv = c .before .before .before .before .before .before .before .before .before .before .before .before .before .before .before .before .before .before .before .before .before .before .before .before .before .before .before .before .before .before .before .before .before .before .before .before .before .before .before .before .before .before .before .before .before .before .before .before .before .before .before .before .before .loop .inv in let end = c .before .before .before .before .before .before .before .before .before .before .before .before .before .before .before .before .before .before .before .before .before .before .before .before .before .before .before .before .before .before .before .before .before .before .before .before .before .before .before .before .before .before .before .before .before .before .before .before .before .before .line-end .ensures in let t = line-changed _ _ _ (l .0) (l .1) _ _ _ _ _ _ (c .before .before .before .before .before .before .before .before .before .before .before .before .before .before .before .before .before .answer .ensures) (c .before .before .before .before .before .before .before .before .before .before .before .enum-told2 .given .1) _ _ _ (c .before .before .before .before .before .before .before .before .before .change .ensures) in (turned _ (record { begun = c .before .before .before .before .before .before .before .before .before .before .before .before .before .before .before .before .before .before .before .before .before .before .before .before .before .before .before .before .before .before .before .before .before .before .before .before .before .before .before .before .before .before .before .before .before .before .before .before .before .before .before .before .before .loop .begun; ready = c .before .before .before .before .before .before .before .before .before .before .before .before .before .before .before .before .before .before .before .before .before .before .before .before .before .before .before .before .before .before .before .before .before .before .before .before .before .before .before .before .before .before .before .before .before .before .before .before .before .before .before .before .before .loop .ready; state = c .before .before .before .before .before .before .before .before .before .before .before .before .before .before .before .before .before .before .before .before .before .before .before .before .before .before .before .before .before .before .before .before .before .before .before .before .before .before .before .before .before .before .before .before .before .before .before .before .before .before .before .before .before .loop .state }) (c .before .before .before .before .before .before .before .before .before .before .before .before .before .before .before .before .before .before .before .before .before .before .before .before .before .before .before .before .before .before .before .before .before .before .before .before .before .before .before .before .before .before .before .before .before .before .before .before .before .before .before .before .before .before .before .before .before .before .before .before .args .input .now) (c .before .before .before .before .before .before .before .before .before .before .before .before .before .before .before .before .before .before .before .before .before .before .before .before .before .before .before .before .before .before .before .before .before .before .before .before .before .before .before .before .before .before .before .before .before .before .before .before .before .before .before .before .before .before .before .before .before .before .before .before .args .out .now) _ _ (c .before .before .before .before .before .before .before .before .before .before .before .before .before .before .before .before .before .before .before .before .before .before .before .before .before .before .before .before .before .before .before .before .before .before .before .before .before .before .before .before .before .before .before .before .before .before .before .before .before .before .before .before .before .loop .held) (c .before .before .before .before .before .before .before .before .before .before .before .before .before .before .before .before .before .before .before .before .before .before .before .before .before .before .before .before .before .before .before .before .before .before .before .before .before .before .before .before .before .before .before .before .before .before .before .before .before .before .before .before .before .loop .i) _ _ _ _ (c .before .before .before .before .before .before .before .before .before .before .before .before .before .before .before .before .before .before .before .before .before .before .before .before .before .before .before .before .before .before .before .before .before .before .before .before .before .before .before .before .before .before .before .before .before .before .before .before .before .before .before .before .before .loop .have) (inv .0) (end .0) (end .1) (omega (arith, end .2, c .before .before .before .before .before .before .before .before .before .before .before .before .before .before .before .before .before .before .before .before .before .before .before .before .before .before .before .before .before .before .before .before .before .before .before .before .before .before .before .before .before .before .before .before .before .before .before .before .before .if2 .left)) (inv .2) (omega (arith, c .before .before .before .before .before .before .before .before .before .before .before .before .before .before .before .before .before .before .before .before .before .before .before .before .before .before .before .before .before .before .before .before .before .before .before .before .before .before .before .before .before .before .before .before .before .before .before .before .before .before .before .if1 .left, inv .4)) (c .before .before .before .before .before .before .before .before .before .before .before .before .before .wrapping-add-u64 .ensures) _ _ _ _ _ _ t (c .before .before .before .tell3 .ensures), t .ready, search needs, omega (arith, inv .3, c .before .before .before .before .before .before .before .before .before .before .before .before .before .before .before .before .before .before .before .before .before .before .before .before .before .before .before .before .before .before .before .before .before .before .before .before .before .before .before .before .before .before .before .before .held2 .given), omega (arith, inv .4, c .before .before .out3 .given), omega (arith, inv .5, c .before .before .before .before .before .before .before .before .before .before .before .before .before .before .before .before .scratch .given, c .before .before .before .before .before .before .before .before .scratch2 .given), line-starts (c .before .before .before .before .before .before .before .before .before .before .before .before .before .before .before .before .before .before .before .before .before .before .before .before .before .before .before .before .before .before .before .before .before .before .before .before .before .before .before .before .before .before .before .before .before .before .before .before .before .before .before .before .before .before .before .before .before .before .before .before .args .input .now) (c .before .before .before .before .before .before .before .before .before .before .before .before .before .before .before .before .before .before .before .before .before .before .before .before .before .before .before .before .before .before .before .before .before .before .before .before .before .before .before .before .before .before .before .before .before .before .before .before .before .before .before .before .before .loop .i) _ (end .0) (end .1) (omega (arith, end .2, c .before .before .before .before .before .before .before .before .before .before .before .before .before .before .before .before .before .before .before .before .before .before .before .before .before .before .before .before .before .before .before .before .before .before .before .before .before .before .before .before .before .before .before .before .before .before .before .before .before .if2 .left)))
+loop-again-7 c = let n = c .before .before .before .before .before .before .before .before .before .before .before .before .before in let l = (before n) .before .before .before .before .before .before .before .before .before .before .before .before .before .before .before .before .before .before .before .before .before .before .before .before .before .before .before .read-request .ensures in let a = n .before .before .before .before .answer .ensures in let g = again n _ _ _ _ _ _ (line-changed _ _ _ (l .0) (l .1) _ _ _ _ _ _ a (c .before .before .before .before .before .before .before .before .before .before .before .enum-told2 .given .1) _ _ _ (c .before .before .before .before .before .before .before .before .before .change .ensures)) (c .before .before .before .tell3 .ensures) in let inv = top (before n) .loop .inv in (g .0, g .1, omega arith, omega (arith, inv .3, (before n) .before .before .before .before .before .before .before .before .before .before .before .before .before .before .before .before .before .before .before .before .before .before .before .before .before .before .held2 .given), omega (arith, inv .4, c .before .before .out3 .given), omega (arith, inv .5, n .before .before .before .scratch .given, c .before .before .before .before .before .before .before .before .scratch2 .given), g .2)
 
 returns-3 : tie.Need-returns-3 Inv-loop2 μ-loop2 Inv-loop3 μ-loop3 Inv-loop μ-loop
 returns-3 c = stop-end _ _ _ _ _ _ _ _ _ _ (record { begun = c .before .before .loop .begun; ready = c .before .before .loop .ready; state = c .before .before .loop .state }) (c .before .before .loop .inv .0) _ (c .stand3 .ensures) (omega (arith, c .before .loop-test .left))
