@@ -8,9 +8,9 @@ use lib.Dec.{leb, ltb, eqb}
 use borrow.Author.Tests.{eqb-true, ltb-true, leb-true, eq-eqb, le-leb, lt-ltb}
 use Rattle.lists.specs.Choice.{both, either, implies, choose}
 use Rattle.lists.specs.Decides.{Decides}
-use Rattle.lists.specs.Places.{every}
+use Rattle.lists.specs.Places.{every, lowest, some}
 use Rattle.lists.proofs.Choice.{true-false, not-so, not-to, both-left, both-right, both-intro, either-to, either-left, either-right, implies-to, implies-of, yes!, no!, choose-elim}
-use Rattle.lists.proofs.Places.{every-at, every-intro}
+use Rattle.lists.proofs.Places.{every-at, every-intro, lowest-holds, lowest-bound}
 
 abbrev pub d-le : (m n : ℕ) → Decides (leb m n) (m ≤ n)
 d-le m n = record { to = leb-true m n; of = le-leb m n }
@@ -67,6 +67,13 @@ abbrev pub d-every : (n : ℕ) {f : ℕ → Bool} {P : ℕ → Type 0} → ((k :
 d-every n {f} {P} p = record {
   to = λ e k h. p k .to (every-at f n e k h);
   of = λ h. every-intro f n (λ k l. p k .of (h k l));
+}
+
+abbrev pub d-some : (n : ℕ) {f : ℕ → Bool} {P : ℕ → Type 0} → ((k : ℕ) → Decides (f k) (P k)) → Decides (some f n) ((k : ℕ) × (k < n) × P k)
+unfolding some
+d-some n {f} {P} p = record {
+  to = λ e. let b = ltb-true (lowest f n) n e in (lowest f n, b, p (lowest f n) .to (lowest-holds f n b));
+  of = λ (k, b, h). lt-ltb (lowest f n) n (omega (arith, lowest-bound f n k (p k .of h)));
 }
 
 -- numbers from m on, tested at the places from 0 on

@@ -3,6 +3,7 @@
 use Prim.Native.Nat.{ℕ, zero, suc, _+_}
 use mathlib.Core.Bool.{Bool, true, false}
 use mathlib.Core.List.{List, [], _∷_}
+use lib.Dec.{ltb}
 use Rattle.lists.specs.Choice.{both, choose}
 
 -- p holds at each of n places from i
@@ -22,6 +23,10 @@ lowestFrom p i (suc n) = elim (p i) [ true ↦ i | false ↦ lowestFrom p (i + 1
 -- the lowest place below n at which p holds, and n where there is none
 unfoldable pub lowest : (ℕ → Bool) → ℕ → ℕ
 lowest p n = lowestFrom p 0 n
+
+-- p holds at one of the places below n
+unfoldable pub some : (ℕ → Bool) → ℕ → Bool
+some p n = ltb (lowest p n) n
 
 -- at how many places below n p holds
 unfoldable pub count : (ℕ → Bool) → ℕ → ℕ

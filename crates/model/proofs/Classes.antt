@@ -9,7 +9,7 @@ use lib.ListN.{getD, drop}
 use denote.Enum.Declared.{tagOf}
 use types.Run.{OneOf}
 use Rattle.model.specs.declared.Operation.{Operation}
-use Rattle.model.specs.declared.Operation.the-variants.{Enrol, Create, Destroy, Permit, Isolate, Query, Add, Remove, Load, Mode, Fetch, Store, Reset}
+use Rattle.model.specs.declared.Operation.the-variants.{Enrol, Create, Destroy, Permit, Isolate, Query, Add, Remove, Load, Mode, Fetch, Store, Reset, Key, Block}
 use Rattle.model.specs.Classes.{Moves, noBytes, fromSpace, toSpace, Shows, noValue, itsValue, itsBytes, Class, class, classOf, storesBytes, isStore}
 use Rattle.model.proofs.Operation as operation
 
@@ -43,7 +43,7 @@ abbrev pub classAt : ℕ → Class
 classAt t =
     getD
     (class true noBytes itsValue ∷ valued ∷ unseen ∷ unseen ∷ unseen ∷ valued ∷ valued ∷ unseen ∷ unseen ∷ unseen
-    ∷ class false (fromSpace 0 0) itsBytes ∷ class false (toSpace 0 0) noValue ∷ unseen ∷ [])
+    ∷ class false (fromSpace 0 0) itsBytes ∷ class false (toSpace 0 0) noValue ∷ unseen ∷ unseen ∷ unseen ∷ [])
     t unseen
 
 class-at : (o : Operation) → class (classOf o .enrols) (plain (classOf o .moves)) (classOf o .shows) ≡ classAt (place o)
@@ -60,6 +60,8 @@ class-at (Mode mode) = refl
 class-at (Fetch register address) = refl
 class-at (Store register address) = refl
 class-at Reset = refl
+class-at (Key key) = refl
+class-at (Block id address key mark) = refl
 
 -- f is a at all of these places
 abbrev pub AllAt : {A : Type 0} → (ℕ → A) → A → List ℕ → Type 0

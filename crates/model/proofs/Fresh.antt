@@ -22,9 +22,10 @@ use Rattle.model.specs.Changes.{allows}
 use Rattle.model.specs.Frames.{Layout, layout}
 use Rattle.model.specs.Fresh.{emptyTables, framesInRange, fresh}
 use Rattle.model.specs.Searches.{enrolled}
-use Rattle.model.specs.Sound.{Live, SpacesOk, GuestsOk, PermitsOk, EntriesOk, Sound}
+use Rattle.model.specs.Sound.{Live, SpacesOk, GuestsOk, PermitsOk, EntriesOk, Sound, CellsOk}
 use Rattle.model.specs.SoundTest.{headTest, sound}
-use Rattle.model.specs.Tables.{noSpace, noGuest, noCpu, zeroCpu, noPermit, unusedEntry, spaceAt, guestAt, guestPlace, cpuAt, permitPlace, entryPlace}
+use Rattle.model.specs.Tables.{noSpace, noGuest, noCpu, zeroCpu, noPermit, unusedEntry, spaceAt, guestAt, guestPlace, cpuAt, permitPlace, entryPlace, noCell, cellAt}
+use Rattle.model.specs.declared.Cell.{Cell}
 use Rattle.model.proofs.Searches.{enrolled-is}
 
 -- Tables that read as unused at every place are sound. Spaces: none is live.
@@ -64,6 +65,7 @@ module _ (ss : List Space) (gs : List Guest) (cs : List Cpu) (len : length gs �
     list-low = λ g e. none-enrolled g e;
     list-high = λ g e. none-enrolled g e;
     mode = λ g e. none-enrolled g e;
+    key = λ g e. none-enrolled g e;
     absent = λ g _ _. bare g;
     idle = λ g i _. idle (guestPlace g) (omega arith);
   }
@@ -85,6 +87,14 @@ bare-entries gs ss ps es len bare = record {
   above = λ g n _ _ _. bare (entryPlace g n);
 }
 
+-- cells: none has a key or a mark
+pub bare-cells : (ss : List Space) (l : Layout) (cs : List Cell) → length cs ≡ 512 → ((f : ℕ) → cellAt cs f ≡ noCell) → CellsOk ss l cs
+bare-cells ss l cs len bare = record {
+  len = len;
+  key = λ f. omega (arith, ap (λ (c : Cell). c .key) (bare f));
+  free = λ f _. bare f;
+}
+
 -- a table of one element reads as that element, past its end too
 repeated : {A : Type 0} (n k : ℕ) (a : A) → getD (replicate n a) k a ≡ a
 repeated n k a = go (decLe n k)
@@ -102,6 +112,7 @@ sound-empty F low high =
       guests = bare-guests (s .spaces) (s .guests) (s .cpus) (length-replicate 8 noGuest) (length-replicate 8 zeroCpu) (λ g. repeated 8 (guestPlace g) noGuest) (λ k b. getD-replicate 8 k zeroCpu noCpu b);
       permits = bare-permits (s .guests) (s .spaces) (s .permits) (length-replicate 256 noPermit) (λ k. repeated 256 k noPermit);
       entries = bare-entries (s .guests) (s .spaces) (s .permits) (s .entries) (length-replicate 240 unusedEntry) (λ k. repeated 240 k unusedEntry);
+      cells = bare-cells (s .spaces) (layout s) (s .cells) (length-replicate 512 noCell) (λ f. repeated 512 f noCell);
     }
 
 -- "tables of zeros with F 0, which aren't sound"

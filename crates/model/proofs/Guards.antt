@@ -12,12 +12,12 @@ use Rattle.lists.specs.Decides.{Decides}
 use Rattle.lists.proofs.Choice.{true-false, not-to, yes!, no!, choose-elim, both-no, either-left, either-right, either-none}
 use Rattle.lists.proofs.Decides.{d-le, d-eq, d-is, d-not, d-both}
 use Rattle.model.specs.declared.Answer.{Answer}
-use Rattle.model.specs.declared.Answer.the-variants.{Unsound, BadCaller, NameTaken, NoSpace, NotOwner, NoSharing, AllowanceUsed, SlotsUsed, NoRun, NoIdentification, NotPermitted, ListFull, AletSpecification, AlenTranslation, Addressing, Protection, SpecialOperation, PrimarySpace}
+use Rattle.model.specs.declared.Answer.the-variants.{Unsound, BadCaller, NameTaken, NoSpace, NotOwner, NoSharing, AllowanceUsed, SlotsUsed, NoRun, NoIdentification, NotPermitted, ListFull, AletSpecification, AlenTranslation, Addressing, Protection, SpecialOperation, PrimarySpace, KeyProtection}
 use Rattle.model.specs.declared.Call.{Call}
 use Rattle.model.specs.declared.Caller.{Caller}
 use Rattle.model.specs.declared.Guest.{Guest}
 use Rattle.model.specs.declared.Operation.{Operation}
-use Rattle.model.specs.declared.Operation.the-variants.{Enrol, Create, Destroy, Permit, Isolate, Query, Add, Remove, Load, Mode, Fetch, Store, Reset}
+use Rattle.model.specs.declared.Operation.the-variants.{Enrol, Create, Destroy, Permit, Isolate, Query, Add, Remove, Load, Mode, Fetch, Store, Reset, Key, Block}
 use Rattle.model.specs.declared.Right.{Right}
 use Rattle.model.specs.declared.Right.the-variants.{Read, Write}
 use Rattle.model.specs.declared.Standing.{Standing}
@@ -27,9 +27,10 @@ use Rattle.model.specs.declared.Translation.{Translation}
 use Rattle.model.specs.declared.Translation.the-variants.{Reached, Refused}
 use Rattle.model.specs.Answers.{number}
 use Rattle.model.specs.Arguments.{Argument, arguments, checkAll, goodPages}
-use Rattle.model.specs.Calls.{making, enrol, create, owning, destroy, permit, isolate, entitled, query, add, remove, load, mode, writes, accessAt, access, target, fetching, storing, reset, perform, goodCaller, judge, ready, decide}
+use Rattle.model.specs.Calls.{making, enrol, create, owning, destroy, permit, isolate, entitled, query, add, remove, load, mode, writes, accessAt, access, target, accessKey, fetching, storing, reset, setKey, block, perform, goodCaller, judge, ready, decide}
 use Rattle.model.specs.Decision.{Decision, Effect, check}
 use Rattle.model.specs.Frames.{sizeOf}
+use Rattle.model.specs.Keys.{keyPermits}
 use Rattle.model.specs.NameText.{NameText}
 use Rattle.model.specs.Names.{baseName}
 use Rattle.model.specs.Searches.{enrolled, isUnused, slotOf, slotNamed, primarySlot, dataSpaces, freeSlot, freeRun, freeEntry}
@@ -57,12 +58,12 @@ module _ (s : State) (g : ℕ) where
   abbrev makingChecks : (pages : ℕ) → List Check
   makingChecks pages = test 9 (ltb (freeSlot (s .spaces)) 32) ∷ test 11 (ltb (s .next) 65536) ∷ test 10 (ltb (freeRun s pages) (s .frames)) ∷ []
 
-  -- DESTROY, PERMIT and ISOLATE: "5, 6"
+  -- DESTROY, PERMIT, ISOLATE and BLOCK: "5, 6"
   abbrev owningChecks : (id : ℕ) → List Check → List Check
   owningChecks i more =
       test 5 (ltb (slotOf (s .spaces) i) 32) ∷ test 6 (eqb (spaceAt (s .spaces) (slotOf (s .spaces) i) .owner) g) ∷ more
 
--- FETCH and STORE: "14, 15, 16, 17, 18". What the token names is read where it names something.
+-- FETCH and STORE: "14, 15, 16, 17, 18", and 22 "after 18". What the token names is read where it names something.
 abbrev isRevoked : Standing → Bool
 isRevoked Unused = false
 isRevoked (Valid u r) = false
@@ -76,17 +77,18 @@ abbrev rightIn : Translation → Right
 rightIn (Reached u r) = r
 rightIn (Refused a) = Read
 
-abbrev accessChecks : State → (guest token address buffer : ℕ) → (storing : Bool) → Translation → List Check
-accessChecks s g t a n storing x =
+abbrev accessChecks : State → (guest key token address buffer : ℕ) → (storing : Bool) → Translation → List Check
+accessChecks s g key t a n storing x =
     test 14 (not (malformed t))
     ∷ test 15 (either (eqb t 0) (assigned (s .entries) g (guestAt (s .guests) g .list) t))
     ∷ test 16 (either (eqb t 0) (not (isRevoked (entryAt (s .entries) g (entryNumber t) .standing))))
     ∷ test 17 (leb (a + n) (sizeOf (s .spaces) (slotIn x)))
     ∷ test 18 (implies storing (writes (rightIn x)))
+    ∷ test 22 (keyPermits s storing key (slotIn x) a n)
     ∷ []
 
 abbrev transferChecks : State → Caller → (register address buffer : ℕ) → (storing : Bool) → List Check
-transferChecks s c r a n storing = accessChecks s (c .guest) (tokenUsed (cpuAt (s .cpus) (cpuPlace c)) r) a n storing (target s c r)
+transferChecks s c r a n storing = accessChecks s (c .guest) (accessKey s c) (tokenUsed (cpuAt (s .cpus) (cpuPlace c)) r) a n storing (target s c r)
 
 abbrev pub ownChecks : State → Caller → Operation → (buffer : ℕ) → List Check
 ownChecks s c (Enrol x) n = makingChecks s (c .guest) (x .pages)
@@ -114,6 +116,9 @@ ownChecks s c (Mode m) n = test 19 (implies (eqb m 1) (guestAt (s .guests) (c .g
 ownChecks s c (Fetch register address) n = transferChecks s c register address n false
 ownChecks s c (Store register address) n = transferChecks s c register address n true
 ownChecks s c Reset n = []
+ownChecks s c (Key key) n = []
+ownChecks s c (Block id address key mark) n =
+    owningChecks s (c .guest) id (test 17 (ltb address (sizeOf (s .spaces) (slotOf (s .spaces) id))) ∷ [])
 
 -- "All check 1, then 2 first"; then 3 for each argument, from left to right
 abbrev limits : List Argument → List Check → List Check
@@ -150,13 +155,14 @@ first-limits [] d cs e = e
 first-limits (a ∷ more) d cs e = first (a .fits) _ _ (limits more cs) (first-limits more d cs e)
 
 -- FETCH and STORE, by what the token is
-module _ (s : State) (g t a n : ℕ) (storing : Bool) (f : ℕ → Effect) where
+module _ (s : State) (g key t a n : ℕ) (storing : Bool) (f : ℕ → Effect) where
   abbrev Fine : Translation → Type 0
-  Fine x = number (access s a n storing f x .answer) ≡ firstFailed (accessChecks s g t a n storing x)
+  Fine x = number (access s key a n storing f x .answer) ≡ firstFailed (accessChecks s g key t a n storing x)
 
-  first-inside : (u : ℕ) (r : Right) → number (accessAt s a n storing (f u) u r .answer) ≡ firstFailed (test 17 (leb (a + n) (sizeOf (s .spaces) u)) ∷ test 18 (implies storing (writes r)) ∷ [])
+  first-inside : (u : ℕ) (r : Right) → number (accessAt s key a n storing (f u) u r .answer)
+      ≡ firstFailed (test 17 (leb (a + n) (sizeOf (s .spaces) u)) ∷ test 18 (implies storing (writes r)) ∷ test 22 (keyPermits s storing key u a n) ∷ [])
   unfolding accessAt number
-  first-inside u r = first _ Addressing _ _ (first _ Protection _ [] none-failed)
+  first-inside u r = first _ Addressing _ _ (first _ Protection _ _ (first _ KeyProtection _ [] none-failed))
 
   first-access : Fine (translate s g t)
   unfolding translate throughStanding access number malformed isUnused
@@ -173,8 +179,8 @@ module _ (s : State) (g t a n : ℕ) (storing : Bool) (f : ℕ → Effect) where
       standing : Standing
       standing = entryAt (s .entries) g (entryNumber t) .standing
 
-      through : eqb t 0 ≡ false → listed ≡ true → (x : Standing) → standing ≡ x → number (access s a n storing f (throughStanding x) .answer)
-          ≡ firstFailed (test 16 (either (eqb t 0) (not (isRevoked standing))) ∷ test 17 (leb (a + n) (sizeOf (s .spaces) (slotIn (throughStanding x)))) ∷ test 18 (implies storing (writes (rightIn (throughStanding x)))) ∷ [])
+      through : eqb t 0 ≡ false → listed ≡ true → (x : Standing) → standing ≡ x → number (access s key a n storing f (throughStanding x) .answer)
+          ≡ firstFailed (test 16 (either (eqb t 0) (not (isRevoked standing))) ∷ test 17 (leb (a + n) (sizeOf (s .spaces) (slotIn (throughStanding x)))) ∷ test 18 (implies storing (writes (rightIn (throughStanding x)))) ∷ test 22 (keyPermits s storing key (slotIn (throughStanding x)) a n) ∷ [])
       through z l Unused e = true-false (ap isUnused e) (assigned-used (s .entries) g (guestAt (s .guests) g .list) t l)
       through z l (Valid u r) e = pass 16 _ _ (either-right _ _ (ap (λ y. not (isRevoked y)) e)) (first-inside u r)
       through z l Revoked e = stop 16 _ _ (either-none _ _ z (ap (λ y. not (isRevoked y)) e))
@@ -182,7 +188,7 @@ module _ (s : State) (g t a n : ℕ) (storing : Bool) (f : ℕ → Effect) where
 -- Any call after the checks 1 to 3, and any call.
 module _ (s : State) (c : Caller) where
   first-performed : (k : Operation) (n : ℕ) → number (perform s c k n .answer) ≡ firstFailed (ownChecks s c k n)
-  unfolding perform enrol create making owning destroy permit isolate query add remove load mode fetching storing reset target number
+  unfolding perform enrol create making owning destroy permit isolate query add remove load mode fetching storing reset target setKey block number
   first-performed (Enrol x) n = first _ SlotsUsed _ _ (first _ NoIdentification _ _ (first _ NoRun _ [] none-failed))
   first-performed (Create name pages) n =
       first _ NameTaken _ _ (first _ AllowanceUsed _ _ (first _ SlotsUsed _ _ (first _ NoIdentification _ _ (first _ NoRun _ [] none-failed))))
@@ -194,9 +200,11 @@ module _ (s : State) (c : Caller) where
   first-performed (Remove token) n = first _ AletSpecification _ _ (first _ AlenTranslation _ [] none-failed)
   first-performed (Load register value) n = none-failed
   first-performed (Mode m) n = first _ SpecialOperation _ [] none-failed
-  first-performed (Fetch register address) n = first-access s (c .guest) _ address n false _
-  first-performed (Store register address) n = first-access s (c .guest) _ address n true _
+  first-performed (Fetch register address) n = first-access s (c .guest) _ _ address n false _
+  first-performed (Store register address) n = first-access s (c .guest) _ _ address n true _
   first-performed Reset n = none-failed
+  first-performed (Key key) n = none-failed
+  first-performed (Block id address key mark) n = first _ NoSpace _ _ (first _ NotOwner _ _ (first _ Addressing _ [] none-failed))
 
 pub answer-first : (s : State) (m : ℕ) (k : Call) (n : ℕ) → number (decide s m k n .answer) ≡ firstFailed (checks s m k n)
 unfolding decide judge number
@@ -220,6 +228,8 @@ limitsOf gs c (Mode m) n = (m ≤ 1) ∷ []
 limitsOf gs c (Fetch register address) n = (register ≤ 15) ∷ ((1 ≤ n) × (n ≤ 256)) ∷ []
 limitsOf gs c (Store register address) n = (register ≤ 15) ∷ ((1 ≤ n) × (n ≤ 256)) ∷ []
 limitsOf gs c Reset n = []
+limitsOf gs c (Key key) n = (key ≤ 15) ∷ []
+limitsOf gs c (Block id address key mark) n = (key ≤ 15) ∷ (mark ≤ 1) ∷ []
 
 -- each argument fits exactly where it is inside its limits
 data Decided : List Argument → List (Type 0) → Type 1 where
@@ -245,6 +255,8 @@ limits-decided gs c (Mode m) n = more (d-le m 1) none
 limits-decided gs c (Fetch register address) n = more (d-le register 15) (more (d-both (d-le 1 n) (d-le n 256)) none)
 limits-decided gs c (Store register address) n = more (d-le register 15) (more (d-both (d-le 1 n) (d-le n 256)) none)
 limits-decided gs c Reset n = none
+limits-decided gs c (Key key) n = more (d-le key 15) none
+limits-decided gs c (Block id address key mark) n = more (d-le key 15) (more (d-le mark 1) none)
 
 -- outside them the answer is 3, and inside them the call's own checks decide
 abbrev pub All : List (Type 0) → Type 0

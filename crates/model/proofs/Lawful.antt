@@ -15,7 +15,7 @@ use Rattle.model.specs.declared.Call.{Call}
 use Rattle.model.specs.declared.Caller.{Caller}
 use Rattle.model.specs.declared.Change.{Change}
 use Rattle.model.specs.declared.Operation.{Operation}
-use Rattle.model.specs.declared.Operation.the-variants.{Enrol, Create, Destroy, Permit, Isolate, Query, Add, Remove, Load, Mode, Fetch, Store, Reset}
+use Rattle.model.specs.declared.Operation.the-variants.{Enrol, Create, Destroy, Permit, Isolate, Query, Add, Remove, Load, Mode, Fetch, Store, Reset, Key, Block}
 use Rattle.model.specs.declared.Space.{Space}
 use Rattle.model.specs.declared.State.{State}
 use Rattle.model.specs.Calls.{newSpace, enrols, goodCaller, target, decide}
@@ -95,8 +95,8 @@ module _ (s : State) (c : Change) (g name pages n : ℕ) (d : Decision) (ok : So
 
   spared : (u : ℕ) → u ≢ slot → Live (t .spaces) u → Spares t (framesOf t slot) u
   spared u ne l p k h b e =
-      run .free u p k (live-slot (s .spaces) u 32 (ok .spaces .len) (rw (made-other u ne) at l)) (rw (made-other u ne) at l) (rw (made-other u ne) at h) (new-frame k b .0)
-      (sym (made-frame u p ne) ∙ e ∙ new-frame k b .1)
+      run .free k (new-frame k b .0) u (live-slot (s .spaces) u 32 (ok .spaces .len) (rw (made-other u ne) at l)) (rw (made-other u ne) at l)
+      (p, rw (made-other u ne) at h, sym (made-frame u p ne) ∙ e ∙ new-frame k b .1)
 
   lawful-made : Lawful s n d
   lawful-made = rw (m .is) (record { frames = head; kept = λ u l. go u l (ℕ-discrete u slot); inside = new-inside })
@@ -147,6 +147,8 @@ lawful-performed s c (Load register value) n d ok en p = rw (p .is) (lawful-same
 lawful-performed s c (Mode m) n d ok en p = rw (p .is) (lawful-same s _ 0 n refl refl)
 lawful-performed s c (Fetch register address) n d ok en p = lawful-access s c register address n false (λ u. fetch u address) d ok en (λ u i. i) (λ u. refl) p
 lawful-performed s c (Store register address) n d ok en p = lawful-access s c register address n true (λ u. store u address) d ok en (λ u i. i) (λ u. refl) p
+lawful-performed s c (Key key) n d ok en p = rw (p .is) (lawful-same s _ 0 n refl refl)
+lawful-performed s c (Block id address key mark) n d ok en p = rw (p .is) (lawful-same s _ 0 n refl refl)
 lawful-performed s c Reset n d ok en p =
     rw (p .is) (lawful-withdrawn s _ (λ u. isData (c .guest) (spaceAt (s .spaces) u)) (λ u. isOwned (c .guest) (spaceAt (s .spaces) u)) 0 n refl refl)
 

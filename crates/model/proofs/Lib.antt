@@ -16,6 +16,8 @@ pub mod SpaceBytes
 pub mod Withdraw
 pub mod Reset
 pub mod Registers
+pub mod Keys
+pub mod Blocks
 pub mod Tokens
 pub mod Rights
 pub mod Fresh
@@ -30,4 +32,5 @@ pub mod Guards
 pub mod Effects
 pub mod SpaceEffects
 pub mod TransferEffects
+pub mod BlockEffect
 pub mod Steps

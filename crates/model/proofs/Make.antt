@@ -25,8 +25,8 @@ use Rattle.model.specs.Granted.{Made, Created}
 use Rattle.model.specs.Names.{blanks, nameRest, nameForm, nameBytes, goodName, baseName}
 use Rattle.model.specs.Runs.{IsRun}
 use Rattle.model.specs.Searches.{enrolled, slotNamed, primarySlot, primaries, dataSpaces, freeSlot, freeRun}
-use Rattle.model.specs.Sizes.{maxAllowance, maxList}
-use Rattle.model.specs.Sound.{Live, IsGuest, GuestsOk, PermitsOk, EntriesOk, Sound}
+use Rattle.model.specs.Sizes.{maxAllowance, maxList, maxKey}
+use Rattle.model.specs.Sound.{CellsOk, Live, IsGuest, GuestsOk, PermitsOk, EntriesOk, Sound}
 use Rattle.model.specs.Tables.{noSpace, noGuest, spaceAt, guestAt, guestPlace, cpuAt, withGuests}
 use Rattle.model.proofs.NewSpace.{Fits, Placed, stands, spaces-made, primary-made, data-made, others-made, no-primaries, no-data}
 use Rattle.model.proofs.Runs.{lowest-run, lowest-slot}
@@ -60,6 +60,7 @@ record Settled (ss : List Space) (y : Guest) (c : Cpu) (g : ℕ) : Type 0 where
   list-low : 1 ≤ y .list
   list-high : y .list ≤ maxList
   mode : c .mode ≡ true → y .asf ≡ true
+  key : c .key ≤ maxKey
 
 settled-before : (ss : List Space) (gs : List Guest) (cs : List Cpu) → GuestsOk ss gs cs → (g : ℕ) → enrolled gs g ≡ true → Settled ss (guestAt gs g) (cpuAt cs (guestPlace g)) g
 settled-before ss gs cs ok g e = record {
@@ -69,6 +70,7 @@ settled-before ss gs cs ok g e = record {
   list-low = ok .list-low g e;
   list-high = ok .list-high g e;
   mode = ok .mode g e;
+  key = ok .key g e;
 }
 
 -- The tables after: the space x stands in the slot j, which was free, and the guests are hs.
@@ -87,6 +89,7 @@ module _ (s : State) (ok : Sound s) (hs : List Guest) (x : Space) (k : Keeps (s 
     list-low = λ h e. all h e .list-low;
     list-high = λ h e. all h e .list-high;
     mode = λ h e. all h e .mode;
+    key = λ h e. all h e .key;
     absent = λ h i a. let same = k .others h i (other h a) in same ∙ ok .guests .absent h i (rw same at a);
     idle = λ h i a. ok .guests .idle h i (rw (k .others h i (other h a)) at a);
   }
@@ -108,6 +111,7 @@ module _ (s : State) (ok : Sound s) (hs : List Guest) (x : Space) (k : Keeps (s 
                 list-low = rw same (before .list-low);
                 list-high = rw same (before .list-high);
                 mode = rw same (before .mode);
+                key = before .key;
               }
 
       other : (h : ℕ) → guestAt hs h .enrolled ≡ false → h ≢ x .owner
@@ -162,6 +166,7 @@ sound-made s hs g name pages c d ok to m k caller pos good new = rw (m .is, to) 
   guests = guests-made s ok hs x k j (m .slot) free caller;
   permits = permits-made s ok hs x k j (m .slot) free;
   entries = entries-made s ok hs x k j (m .slot) free;
+  cells = cells-made;
 })
   where
     j : ℕ
@@ -195,7 +200,17 @@ sound-made s hs g name pages c d ok to m k caller pos good new = rw (m .is, to) 
       others = λ u p l. ap (λ (y : Space). y .first + p) (stands (s .spaces) j x (ok .spaces .len) (m .slot) free u l);
       inside = λ p h. rw (own-frame p) (omega (arith, run .inside));
       own = λ p q a b e. omega (arith, sym (own-frame p) ∙ e ∙ own-frame q);
-      free = λ u p q l a b e. run .free u p q (live-slot (s .spaces) u 32 (ok .spaces .len) l) l a b (e ∙ own-frame q);
+      free = λ u p q l a b e. run .free q b u (live-slot (s .spaces) u 32 (ok .spaces .len) l) l (p, a, e ∙ own-frame q);
+    }
+
+    -- a frame that is free after the call was free before it
+    cells-made : CellsOk (set (s .spaces) j x) (set (s .spaces) j x) (s .cells)
+    cells-made = record {
+      len = ok .cells .len;
+      key = ok .cells .key;
+      free = λ f out. ok .cells .free f (λ u b l (p, h, e).
+          let same = stands (s .spaces) j x (ok .spaces .len) (m .slot) free u l in
+          out u b (rw same l) (p, rw same h, placed .others u p l ∙ e));
     }
 
 -- an enrolled guest has a space named BASE
@@ -232,6 +247,7 @@ sound-create s g name pages d ok e good pos c =
       list-low = before .list-low;
       list-high = before .list-high;
       mode = before .mode;
+      key = before .key;
     }
 
 base-good : goodName baseName ≡ true
@@ -285,4 +301,5 @@ sound-enrol s g x d ok i out pos small low high m =
       list-low = low;
       list-high = high;
       mode = λ e. true-false e (ap (λ (z : Cpu). z .mode) (ok .guests .idle g i out));
+      key = omega (arith, ap (λ (z : Cpu). z .key) (ok .guests .idle g i out));
     })

@@ -6,7 +6,7 @@ use lib.Dec.{leb}
 use Rattle.lists.specs.Choice.{choose}
 use Rattle.model.specs.declared.Caller.{Caller}
 use Rattle.model.specs.declared.Operation.{Operation}
-use Rattle.model.specs.declared.Operation.the-variants.{Enrol, Create, Destroy, Permit, Isolate, Query, Add, Remove, Load, Mode, Fetch, Store, Reset}
+use Rattle.model.specs.declared.Operation.the-variants.{Enrol, Create, Destroy, Permit, Isolate, Query, Add, Remove, Load, Mode, Fetch, Store, Reset, Key, Block}
 use Rattle.model.specs.declared.State.{State}
 use Rattle.model.specs.Arguments.{arguments}
 use Rattle.model.specs.Calls.{enrols, goodCaller}
@@ -49,3 +49,5 @@ performed-moved s c (Mode mode) n d e fit p = rw (p .is) tt
 performed-moved s c (Fetch register address) n d e fit p = record { caller = e; register = fit .0; accessed = p }
 performed-moved s c (Store register address) n d e fit p = record { caller = e; register = fit .0; accessed = p }
 performed-moved s c Reset n d e fit p = rw (p .is) tt
+performed-moved s c (Key key) n d e fit p = rw (p .is) tt
+performed-moved s c (Block id address key mark) n d e fit p = rw (p .is) tt

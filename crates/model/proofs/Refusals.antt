@@ -8,11 +8,11 @@ use borrow.Author.Tests.{eq-eqb}
 use Rattle.lists.specs.Choice.{either}
 use Rattle.lists.proofs.Choice.{true-false}
 use Rattle.model.specs.declared.Answer.{Answer}
-use Rattle.model.specs.declared.Answer.the-variants.{Done, Unsound, BadCaller, Limit, NameTaken, NoSpace, NotOwner, NoSharing, AllowanceUsed, SlotsUsed, NoRun, NoIdentification, NotPermitted, ListFull, AletSpecification, AlenTranslation, AddressingCapability, Addressing, Protection, SpecialOperation, PrimarySpace, LineNotRead}
+use Rattle.model.specs.declared.Answer.the-variants.{Done, Unsound, BadCaller, Limit, NameTaken, NoSpace, NotOwner, NoSharing, AllowanceUsed, SlotsUsed, NoRun, NoIdentification, NotPermitted, ListFull, AletSpecification, AlenTranslation, AddressingCapability, Addressing, Protection, SpecialOperation, PrimarySpace, LineNotRead, KeyProtection}
 use Rattle.model.specs.declared.Call.{Call}
 use Rattle.model.specs.declared.Caller.{Caller}
 use Rattle.model.specs.declared.Operation.{Operation}
-use Rattle.model.specs.declared.Operation.the-variants.{Enrol, Create, Destroy, Permit, Isolate, Query, Add, Remove, Load, Mode, Fetch, Store, Reset}
+use Rattle.model.specs.declared.Operation.the-variants.{Enrol, Create, Destroy, Permit, Isolate, Query, Add, Remove, Load, Mode, Fetch, Store, Reset, Key, Block}
 use Rattle.model.specs.declared.State.{State}
 use Rattle.model.specs.Answers.{number, value}
 use Rattle.model.specs.Calls.{decide, ready}
@@ -38,6 +38,8 @@ performed-number s c (Mode m) n d p = rw (p .is) refl
 performed-number s c (Fetch register address) n d p = rw (p .is) refl
 performed-number s c (Store register address) n d p = rw (p .is) refl
 performed-number s c Reset n d p = rw (p .is) refl
+performed-number s c (Key key) n d p = rw (p .is) refl
+performed-number s c (Block id address key mark) n d p = rw (p .is) refl
 
 module _ (s : State) (m : ℕ) (k : Call) (n : ℕ) where
   -- each call gives only the answers that its row lists
@@ -94,6 +96,7 @@ refused-value Protection e = refl
 refused-value SpecialOperation e = refl
 refused-value PrimarySpace e = refl
 refused-value LineNotRead e = refl
+refused-value KeyProtection e = refl
 
 -- "Every refusal of a call, later numbers included, changes no table, no scratch byte and no caller's buffer"
 pub record Unchanged (m : Machine) (i : Issue) : Type 0 where

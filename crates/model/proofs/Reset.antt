@@ -22,13 +22,14 @@ use Rattle.model.specs.declared.Standing.the-variants.{Unused, Valid, Re
 use Rattle.model.specs.declared.State.{State}
 use Rattle.model.specs.Changes.{allows, releasedFrom, released, revokedFrom, revoked, listOwner, permitSlot, releasedAll, vacated, unpermitted, loses, revokedAll, withdrawn, resetTables}
 use Rattle.model.specs.Decision.{Decision, after}
+use Rattle.model.specs.Frames.{layout}
 use Rattle.model.specs.Granted.{Destroyed, Isolated, ResetDone}
 use Rattle.model.specs.Names.{baseName}
 use Rattle.model.specs.Searches.{isOwned, isData, slotOf}
 use Rattle.model.specs.Sound.{IsGuest, IsEntry, Sound}
 use Rattle.model.specs.Tables.{noSpace, noPermit, unusedEntry, spaceAt, permitPlace, grantAt, entryPlace, entryAt, withEntries}
 use Rattle.model.proofs.Entries.{list-owner, released-unused, released-small, released-nothing, allows-read, nothing-allowed}
-use Rattle.model.proofs.Withdraw.{sound-withdrawn}
+use Rattle.model.proofs.Withdraw.{none-freed, sound-withdrawn}
 
 -- All of guest g's given up: its own are released, those of others stay.
 module _ (es : List Entry) (g : ℕ) where
@@ -61,6 +62,7 @@ sound-released s g ok = record {
   spaces = ok .spaces;
   guests = ok .guests;
   permits = ok .permits;
+  cells = ok .cells;
   entries = record {
     len = released-length (s .entries) g ∙ ok .entries .len;
     sequence = λ h n i e.
@@ -137,4 +139,5 @@ module _ (s : State) (u : ℕ) (ok : Sound s) (hidden : (h : ℕ) → IsGuest h 
 
 pub isolate-private : (s : State) (u : ℕ) → Sound s → u < 32 → ((h : ℕ) → IsGuest h → allows (grantAt (s .permits) u h) Read ≡ false) → withdrawn (λ v. false) (eqb u) s ≡ s
 unfolding withdrawn
-isolate-private s u ok _ hidden = rw (same-spaces s u ok hidden, same-permits s u ok hidden, same-entries s u ok hidden)
+isolate-private s u ok _ hidden =
+    rw (same-spaces s u ok hidden, same-permits s u ok hidden, same-entries s u ok hidden, none-freed (layout s) (s .spaces) (s .cells))

@@ -92,6 +92,7 @@ sound-entry s g n x ok i j listed small ground = record {
   spaces = ok .spaces;
   guests = ok .guests;
   permits = ok .permits;
+  cells = ok .cells;
   entries = set-entry (s .guests) (s .spaces) (s .permits) (s .entries) g n x (ok .entries) i j listed small ground;
 }
 
@@ -119,6 +120,7 @@ sound-permit s g i h r d ok on other done =
         guest = on;
         other = λ e. other (e ∙ done .owning .owner);
       });
+      cells = ok .cells;
       entries = entries-permitted (s .guests) (s .spaces) (s .permits) _ (s .entries) (λ v k x _ _. raise-keeps (s .permits) u h r (ok .permits .len) b guest v k x) (ok .entries);
     })
 

@@ -3,23 +3,22 @@
 use Prim.Native.Nat.{ℕ, _+_, _<_}
 use mathlib.Core.Bool.{not}
 use mathlib.Core.List.{List}
-use mathlib.Core.Logic.{_≢_}
 use mathlib.Core.Path.{_≡_, ap}
 use native.Mathlib.Omega.{arith}
 use Rattle.lists.specs.Decides.{Decides}
 use Rattle.lists.specs.Lowest.{Lowest}
-use Rattle.lists.proofs.Decides.{d-le, d-eq, d-not, d-both, d-implies, d-map, d-every}
+use Rattle.lists.proofs.Decides.{d-le, d-eq, d-not, d-both, d-implies, d-map, d-every, d-some}
 use Rattle.lists.proofs.Lowest.{lowest-decided}
 use Rattle.model.specs.declared.Entry.{Entry}
 use Rattle.model.specs.declared.Space.{Space}
 use Rattle.model.specs.declared.Standing.{Standing}
 use Rattle.model.specs.declared.Standing.the-variants.{Unused}
 use Rattle.model.specs.declared.State.{State}
-use Rattle.model.specs.Frames.{Layout, layout, frameOf, frameFree}
+use Rattle.model.specs.Frames.{Layout, layout, frameOf, hasFrame, frameFree}
 use Rattle.model.specs.Runs.{IsRun}
 use Rattle.model.specs.Searches.{freeSlot, runFree, runIn, freeRun, isUnused, freeEntry}
 use Rattle.model.specs.Sizes.{slotCount}
-use Rattle.model.specs.Sound.{Live}
+use Rattle.model.specs.Sound.{HasFrame, Free}
 use Rattle.model.specs.Tables.{spaceAt, live, entryAt}
 use Rattle.model.proofs.Searches.{d-live, unused-is}
 
@@ -27,14 +26,18 @@ d-unused : (x : Standing) → Decides (isUnused x) (x ≡ Unused)
 unfolding isUnused
 d-unused x = record { to = unused-is x; of = λ e. ap isUnused e }
 
-d-frame : (l : Layout) (ss : List Space) (f : ℕ) → Decides (frameFree l ss f) ((u : ℕ) → u < slotCount → Live ss u → (p : ℕ) → p < spaceAt ss u .pages → frameOf l u p ≢ f)
+pub d-has : (l : Layout) (ss : List Space) (u f : ℕ) → Decides (hasFrame l ss u f) (HasFrame l ss u f)
+unfolding hasFrame
+d-has l ss u f = d-some (spaceAt ss u .pages) (λ p. d-eq (frameOf l u p) f)
+
+pub d-frame : (l : Layout) (ss : List Space) (f : ℕ) → Decides (frameFree l ss f) (Free l ss f)
 unfolding frameFree
-d-frame l ss f = d-every slotCount (λ u. d-implies (d-live (spaceAt ss u)) (d-every (spaceAt ss u .pages) (λ p. d-not (d-eq (frameOf l u p) f))))
+d-frame l ss f = d-every slotCount (λ u. d-implies (d-live (spaceAt ss u)) (d-not (d-has l ss u f)))
 
 d-run : (s : State) (n f : ℕ) → f < s .frames → Decides (runFree (s .frames) (layout s) (s .spaces) n f) (IsRun s n f)
 unfolding runFree
 d-run s n f b =
-    d-map (λ h. record { start = b; inside = h .0; free = λ u p k a l q c. h .1 k c u a l p q }) (λ r. (r .inside, λ k c u a l p q. r .free u p k a l q c))
+    d-map (λ h. record { start = b; inside = h .0; free = h .1 }) (λ r. (r .inside, r .free))
     (d-both (d-le (f + n) (s .frames)) (d-every n (λ k. d-frame (layout s) (s .spaces) (f + k))))
 
 -- answer 10: "no run of that many neighbouring free frames exists"

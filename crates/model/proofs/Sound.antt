@@ -12,7 +12,7 @@ use Rattle.lists.proofs.Bytes.{length-put, length-get}
 use Rattle.model.specs.declared.Call.{Call}
 use Rattle.model.specs.declared.Caller.{Caller}
 use Rattle.model.specs.declared.Operation.{Operation}
-use Rattle.model.specs.declared.Operation.the-variants.{Enrol, Create, Destroy, Permit, Isolate, Query, Add, Remove, Load, Mode, Fetch, Store, Reset}
+use Rattle.model.specs.declared.Operation.the-variants.{Enrol, Create, Destroy, Permit, Isolate, Query, Add, Remove, Load, Mode, Fetch, Store, Reset, Key, Block}
 use Rattle.model.specs.declared.State.{State}
 use Rattle.model.specs.Arguments.{arguments}
 use Rattle.model.specs.Calls.{enrols, mayEnrol, goodCaller, ready, decide}
@@ -25,10 +25,11 @@ use Rattle.model.specs.SoundTest.{sound}
 use Rattle.model.specs.Step.{Machine, Ready, Issue, decision, step, scratchAfter, bufferAfter}
 use Rattle.model.specs.Tables.{guestAt}
 use Rattle.model.specs.Verdict.{row, Verdict, refused, granted}
+use Rattle.model.proofs.Blocks.{sound-block}
 use Rattle.model.proofs.Clearing.{length-clearFrames}
 use Rattle.model.proofs.Lawful.{lawful}
 use Rattle.model.proofs.Make.{sound-create, sound-enrol}
-use Rattle.model.proofs.Registers.{sound-load, sound-mode}
+use Rattle.model.proofs.Registers.{sound-load, sound-mode, sound-key}
 use Rattle.model.proofs.Reset.{sound-destroy, sound-isolate, sound-reset}
 use Rattle.model.proofs.Rights.{sound-permit, sound-add, sound-remove}
 use Rattle.model.proofs.Searches.{enrolled-guest}
@@ -62,6 +63,8 @@ performed-sound s c (Mode m) n d ok e fit p = sound-mode s c m d ok e p
 performed-sound s c (Fetch register address) n d ok e fit p = rw (p .is) ok
 performed-sound s c (Store register address) n d ok e fit p = rw (p .is) ok
 performed-sound s c Reset n d ok e fit p = sound-reset s (c .guest) d ok p
+performed-sound s c (Key key) n d ok e fit p = sound-key s c key d ok e (leb-true key 15 (fit .0)) p
+performed-sound s c (Block id address key mark) n d ok e fit p = sound-block s (c .guest) id address key mark d ok (leb-true key 15 (fit .0)) p
 
 pub sound-kept : (s : State) (m : ℕ) (k : Call) (n : ℕ) → Sound s → Sound (after s (decide s m k n))
 sound-kept s m k n ok = go (verdict s m k n)

@@ -13,6 +13,7 @@ use Rattle.lists.specs.Decides.{Decides}
 use Rattle.lists.specs.Places.{every}
 use Rattle.lists.proofs.Choice.{not-so}
 use Rattle.lists.proofs.Decides.{d-le, d-lt, d-eq, d-is, d-isnt, d-both, d-either, d-implies, d-not, d-if, d-map, d-every, d-from}
+use Rattle.model.specs.declared.Cell.{Cell}
 use Rattle.model.specs.declared.Cpu.{Cpu}
 use Rattle.model.specs.declared.Entry.{Entry}
 use Rattle.model.specs.declared.Guest.{Guest}
@@ -25,10 +26,10 @@ use Rattle.model.specs.declared.Standing.the-variants.{Unused, Valid, Re
 use Rattle.model.specs.Changes.{allows}
 use Rattle.model.specs.Names.{goodName}
 use Rattle.model.specs.Searches.{enrolled, isUnused}
-use Rattle.model.specs.Sizes.{maxAllowance, maxList, guestCount, slotCount, registerCount}
+use Rattle.model.specs.Sizes.{maxAllowance, maxList, guestCount, slotCount, registerCount, maxKey}
 use Rattle.model.specs.Sound.{IsGuest, IsEntry, PermitGround, EntryGround}
-use Rattle.model.specs.SoundTest.{liveTest, deadTest, slotTest, framesApart, sameName, pairTest, enrolledTest, absentTest, permitTest, groundTest, standingTest, untouchedTest}
-use Rattle.model.specs.Tables.{noSpace, noGuest, zeroCpu, unusedEntry, spaceAt, live, guestAt, grantAt}
+use Rattle.model.specs.SoundTest.{liveTest, deadTest, slotTest, framesApart, sameName, pairTest, enrolledTest, absentTest, permitTest, groundTest, standingTest, untouchedTest, blankTest}
+use Rattle.model.specs.Tables.{noSpace, noGuest, zeroCpu, unusedEntry, noCell, spaceAt, live, guestAt, grantAt}
 use Rattle.model.proofs.Searches.{live-to, live-of, not-live, d-live, unused-is}
 
 pub d-guests : {f : ℕ → Bool} {P : ℕ → Type 0} → ((k : ℕ) → Decides (f k) (P (k + 1))) → Decides (every f guestCount) ((g : ℕ) → IsGuest g → P g)
@@ -120,14 +121,15 @@ pub record EnrolledFacts (x : Guest) (c : Cpu) (primaries dataSpaces : ℕ) : Ty
   pub list-low : 1 ≤ x .list
   pub list-high : x .list ≤ maxList
   pub mode : c .mode ≡ true → x .asf ≡ true
+  pub key : c .key ≤ maxKey
 
 -- primary mode and zeros: with sixteen registers, the CPU of zeros
 abbrev pub Idle : Cpu → Type 0
-Idle c = (c .mode ≡ false) × ((r : ℕ) → r < registerCount → getD (c .registers) r 0 ≡ 0)
+Idle c = (c .mode ≡ false) × ((c .key ≡ 0) × ((r : ℕ) → r < registerCount → getD (c .registers) r 0 ≡ 0))
 
 module _ (c : Cpu) where
   pub idle-to : length (c .registers) ≡ registerCount → Idle c → c ≡ zeroCpu
-  idle-to len (mode, zero-at) = λ j. record { registers = zeros j; mode = mode j }
+  idle-to len (mode, (key, zero-at)) = λ j. record { registers = zeros j; mode = mode j; key = key j }
     where
       zeros : c .registers ≡ replicate registerCount 0
       zeros = ext-getD 0 (c .registers) (replicate registerCount 0) len (λ r l.
@@ -135,7 +137,7 @@ module _ (c : Cpu) where
           zero-at r b ∙ sym (getD-replicate registerCount r 0 0 b))
 
   pub idle-of : c ≡ zeroCpu → Idle c
-  idle-of e = rw e (refl, λ r l. getD-replicate registerCount r 0 0 l)
+  idle-of e = rw e (refl, (refl, λ r l. getD-replicate registerCount r 0 0 l))
 
 abbrev pub GuestFacts : Guest → Cpu → (primaries dataSpaces : ℕ) → Type 0
 GuestFacts x c p d = (x .enrolled ≡ true → EnrolledFacts x c p d) × (x .enrolled ≡ false → (x ≡ noGuest) × Idle c)
@@ -144,13 +146,14 @@ module _ (x : Guest) (c : Cpu) where
   enrolled-decides : (p d : ℕ) → Decides (enrolledTest x c p d) (EnrolledFacts x c p d)
   unfolding enrolledTest
   enrolled-decides p d = d-map
-      (λ (primary, (allowed, (allowance, (low, (high, mode))))). record { primary = primary; allowed = allowed; allowance = allowance; list-low = low; list-high = high; mode = mode })
-      (λ ok. (ok .primary, (ok .allowed, (ok .allowance, (ok .list-low, (ok .list-high, ok .mode))))))
+      (λ (primary, (allowed, (allowance, (low, (high, (key, mode)))))). record { primary = primary; allowed = allowed; allowance = allowance; list-low = low; list-high = high; mode = mode; key = key })
+      (λ ok. (ok .primary, (ok .allowed, (ok .allowance, (ok .list-low, (ok .list-high, (ok .key, ok .mode)))))))
       (d-both (d-eq p 1)
       (d-both (d-le d (x .allowance))
       (d-both (d-le (x .allowance) maxAllowance)
       (d-both (d-le 1 (x .list))
-      (d-both (d-le (x .list) maxList) (d-implies (d-is (c .mode)) (d-is (x .asf))))))))
+      (d-both (d-le (x .list) maxList)
+      (d-both (d-le (c .key) maxKey) (d-implies (d-is (c .mode)) (d-is (x .asf)))))))))
 
   absent-decides : x .enrolled ≡ false → Decides (absentTest x c) ((x ≡ noGuest) × Idle c)
   unfolding absentTest
@@ -161,7 +164,8 @@ module _ (x : Guest) (c : Cpu) where
       (d-both (d-isnt (x .share))
       (d-both (d-eq (x .list) 0)
       (d-both (d-isnt (x .asf))
-      (d-both (d-isnt (c .mode)) (d-every registerCount (λ r. d-eq (getD (c .registers) r 0) 0)))))))
+      (d-both (d-isnt (c .mode))
+      (d-both (d-eq (c .key) 0) (d-every registerCount (λ r. d-eq (getD (c .registers) r 0) 0))))))))
 
   pub guest-decides : (p d : ℕ) → Decides (choose (x .enrolled) (enrolledTest x c p d) (absentTest x c)) (GuestFacts x c p d)
   guest-decides p d = d-if (x .enrolled) (λ _. enrolled-decides p d) absent-decides
@@ -203,3 +207,11 @@ module _ (ss : List Space) (ps : List Permit) (g : ℕ) where
       (λ h. h v q refl)
       (ground-decides v q)
   standing-decides Revoked = record { to = λ _ u r e. let z : _≡_ {A = ℕ} 0 1 = cc in absurd (omega arith); of = λ _. refl }
+
+-- A cell.
+pub blank-decides : (c : Cell) → Decides (blankTest c) (c ≡ noCell)
+unfolding blankTest
+blank-decides c = d-map
+    (λ (key, mark) j. record { key = key j; mark = mark j })
+    (λ e. rw e (refl, refl))
+    (d-both (d-eq (c .key) 0) (d-isnt (c .mark)))

@@ -10,6 +10,7 @@ use native.Mathlib.Omega.{arith}
 use lib.ListN.{length, getD, List·getD-eq-default}
 use Rattle.lists.specs.Decides.{Decides}
 use Rattle.lists.proofs.Decides.{d-le, d-lt, d-eq, d-both, d-either, d-implies, d-map, d-every}
+use Rattle.model.specs.declared.Cell.{Cell}
 use Rattle.model.specs.declared.Cpu.{Cpu}
 use Rattle.model.specs.declared.Entry.{Entry}
 use Rattle.model.specs.declared.Guest.{Guest}
@@ -18,15 +19,16 @@ use Rattle.model.specs.declared.Right.{Right}
 use Rattle.model.specs.declared.Space.{Space}
 use Rattle.model.specs.declared.Standing.the-variants.{Valid}
 use Rattle.model.specs.declared.State.{State}
-use Rattle.model.specs.Frames.{frameOf}
+use Rattle.model.specs.Frames.{Layout, layout, frameOf}
 use Rattle.model.specs.Fresh.{framesInRange}
 use Rattle.model.specs.Searches.{enrolled, primaries, dataSpaces}
-use Rattle.model.specs.Sizes.{maxFrames, spentIdentification, guestCount, slotCount, registerCount}
-use Rattle.model.specs.Sound.{Live, IsGuest, IsEntry, HeadOk, SpacesOk, GuestsOk, PermitsOk, EntryGround, EntriesOk, Sound}
-use Rattle.model.specs.SoundTest.{headTest, apartTest, spacesTest, guestTest, guestsTest, permitsTest, entryTest, entriesTest, sound}
-use Rattle.model.specs.Tables.{noSpace, noGuest, unusedEntry, spaceAt, guestAt, guestPlace, cpuAt, entryAt}
+use Rattle.model.specs.Sizes.{maxFrames, spentIdentification, guestCount, slotCount, registerCount, maxKey}
+use Rattle.model.specs.Sound.{Live, IsGuest, IsEntry, HeadOk, SpacesOk, GuestsOk, PermitsOk, EntryGround, EntriesOk, Free, CellsOk, Sound}
+use Rattle.model.specs.SoundTest.{headTest, apartTest, spacesTest, guestTest, guestsTest, permitsTest, entryTest, entriesTest, cellTest, cellsTest, sound}
+use Rattle.model.specs.Tables.{noSpace, noGuest, unusedEntry, noCell, spaceAt, guestAt, guestPlace, cpuAt, entryAt, cellAt}
+use Rattle.model.proofs.Runs.{d-frame}
 use Rattle.model.proofs.Searches.{live-slot, enrolled-guest, enrolled-is, enrolled-of}
-use Rattle.model.proofs.SoundParts.{d-guests, d-numbers, LiveFacts, PairFacts, slot-decides, apart-to, apart-of, pair-decides, EnrolledFacts, idle-to, idle-of, GuestFacts, guest-decides, permit-decides, untouched-decides, standing-decides}
+use Rattle.model.proofs.SoundParts.{d-guests, d-numbers, LiveFacts, PairFacts, slot-decides, apart-to, apart-of, pair-decides, EnrolledFacts, idle-to, idle-of, GuestFacts, guest-decides, permit-decides, untouched-decides, standing-decides, blank-decides}
 
 pub head-decides : (f n : ℕ) → Decides (headTest f n) (HeadOk f n)
 unfolding headTest framesInRange
@@ -127,6 +129,7 @@ module _ (ss : List Space) (gs : List Guest) (cs : List Cpu) where
     list-low = λ g e. at g e .list-low;
     list-high = λ g e. at g e .list-high;
     mode = λ g e. at g e .mode;
+    key = λ g e. at g e .key;
     absent = λ g i n. guests g i .1 n .0;
     idle = λ g i n. idle-to (cpuAt cs (guestPlace g)) (registers (guestPlace g) (omega arith)) (guests g i .1 n .1);
   }
@@ -147,6 +150,7 @@ module _ (ss : List Space) (gs : List Guest) (cs : List Cpu) where
             list-low = ok .list-low g e;
             list-high = ok .list-high g e;
             mode = ok .mode g e;
+            key = ok .key g e;
           }
 
   -- guest k + 1 stands at place k
@@ -197,12 +201,37 @@ module _ (gs : List Guest) (ss : List Space) (ps : List Permit) (es : List Entry
       (d-both (d-eq (length es) 240)
       (d-guests {P = λ g. (n : ℕ) → IsEntry n → EntryFacts g n} (λ k. d-numbers (λ i. entry-decides (k + 1) (i + 2)))))
 
+module _ (ss : List Space) (l : Layout) (cs : List Cell) where
+  cell-decides : (f : ℕ) → Decides (cellTest l ss cs f) ((cellAt cs f .key ≤ maxKey) × (Free l ss f → cellAt cs f ≡ noCell))
+  unfolding cellTest
+  cell-decides f = d-both (d-le (cellAt cs f .key) maxKey) (d-implies (d-frame l ss f) (blank-decides (cellAt cs f)))
+
+  pub cells-decides : Decides (cellsTest l ss cs) (CellsOk ss l cs)
+  unfolding cellsTest
+  cells-decides = d-map
+      (λ (len, cells). record {
+        len = len;
+        key = λ f. at f (λ (c : Cell). c .key ≤ maxKey) len (omega arith) (λ b. cells f b .0);
+        free = λ f out. at f (λ (c : Cell). c ≡ noCell) len (λ j. noCell) (λ b. cells f b .1 out);
+      })
+      (λ ok. (ok .len, λ f _. (ok .key f, ok .free f)))
+      (d-both (d-eq (length cs) maxFrames) (d-every maxFrames cell-decides))
+    where
+      -- past the table a cell reads as blank
+      at : (f : ℕ) (P : Cell → Type 0) → length cs ≡ maxFrames → P noCell → (f < maxFrames → P (cellAt cs f)) → P (cellAt cs f)
+      at f P len none one = go (decLe maxFrames f)
+        where
+          go : Dec (maxFrames ≤ f) → P (cellAt cs f)
+          go (yes h) = rw (List·getD-eq-default cs noCell {n = f} (omega arith)) none
+          go (no h) = one (omega arith)
+
 pub sound-decides : (s : State) → Decides (sound s) (Sound s)
 unfolding sound
 sound-decides s = d-map
-    (λ (head, (spaces, (guests, (permits, entries)))). record { head = head; spaces = spaces; guests = guests; permits = permits; entries = entries })
-    (λ ok. (ok .head, (ok .spaces, (ok .guests, (ok .permits, ok .entries)))))
+    (λ (head, (spaces, (guests, (permits, (entries, cells))))). record { head = head; spaces = spaces; guests = guests; permits = permits; entries = entries; cells = cells })
+    (λ ok. (ok .head, (ok .spaces, (ok .guests, (ok .permits, (ok .entries, ok .cells))))))
     (d-both (head-decides (s .frames) (s .next))
     (d-both (spaces-decides (s .frames) (s .next) (s .guests) (s .spaces))
     (d-both (guests-decides (s .spaces) (s .guests) (s .cpus))
-    (d-both (permits-decides (s .guests) (s .spaces) (s .permits)) (entries-decides (s .guests) (s .spaces) (s .permits) (s .entries))))))
+    (d-both (permits-decides (s .guests) (s .spaces) (s .permits))
+    (d-both (entries-decides (s .guests) (s .spaces) (s .permits) (s .entries)) (cells-decides (s .spaces) (layout s) (s .cells)))))))

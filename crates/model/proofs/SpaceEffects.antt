@@ -9,7 +9,7 @@ use native.Mathlib.Omega.{arith}
 use lib.Dec.{eqb}
 use lib.ListN.{set, replicate}
 use lib.Seq.{getD-set-same, getD-set-other}
-use borrow.Author.Tests.{eq-eqb}
+use borrow.Author.Tests.{eq-eqb, eqb-true}
 use Rattle.lists.specs.Choice.{choose}
 use Rattle.lists.specs.Decides.{Decides}
 use Rattle.lists.specs.Lowest.{Lowest}
@@ -30,24 +30,25 @@ use Rattle.model.specs.declared.Standing.the-variants.{Unused, Valid, Re
 use Rattle.model.specs.declared.State.{State}
 use Rattle.model.specs.Answers.{value}
 use Rattle.model.specs.Calls.{newSpace, newGuest, enrols, goodCaller}
-use Rattle.model.specs.Changes.{released, releasedFrom, revokedFrom, revoked, loses, withdrawn, resetTables, spaceAdded, applied}
+use Rattle.model.specs.Changes.{released, releasedFrom, revokedFrom, revoked, loses, withdrawn, resetTables, spaceAdded, applied, freed}
 use Rattle.model.specs.Decision.{Decision, after, none, accept}
 use Rattle.model.specs.Frames.{layout, frameOf, bytesOf}
 use Rattle.model.specs.Granted.{Made, Performed}
 use Rattle.model.specs.Names.{baseName}
 use Rattle.model.specs.Runs.{IsRun}
 use Rattle.model.specs.Searches.{isOwned, isData, slotOf, dataSpaces, freeSlot, freeRun}
-use Rattle.model.specs.Sound.{Live, IsGuest, IsEntry, Sound}
+use Rattle.model.specs.Sound.{Live, IsGuest, IsEntry, Sound, HasFrame}
 use Rattle.model.specs.Step.{scratchAfter}
-use Rattle.model.specs.Tables.{noSpace, noGuest, spaceAt, guestAt, guestPlace, grantAt, entryAt, withNext, withSpaces, withGuests, withPermits, withEntries}
+use Rattle.model.specs.Tables.{noSpace, noGuest, spaceAt, guestAt, guestPlace, grantAt, entryAt, withNext, withSpaces, withGuests, withPermits, withEntries, withCells, noCell, cellAt}
+use Rattle.model.specs.declared.Cell.{Cell}
 use Rattle.model.proofs.Effects.{IsSpace, is-space, by, Done, all, ok, guest}
 use Rattle.model.proofs.Entries.{same-guest, released-unused}
 use Rattle.model.proofs.Reset.{standing-stays, released-own, released-other}
 use Rattle.model.proofs.Runs.{lowest-run, lowest-slot}
-use Rattle.model.proofs.Searches.{d-live, named-none}
+use Rattle.model.proofs.Searches.{d-live, named-none, live-slot}
 use Rattle.model.proofs.Sound.{may-enrol, sound-kept}
 use Rattle.model.proofs.SpaceBytes.{clear-own}
-use Rattle.model.proofs.Withdraw.{withdrawn-gone, withdrawn-kept, withdrawn-live, withdrawn-frame, withdrawn-grant, withdrawn-revoked}
+use Rattle.model.proofs.Withdraw.{withdrawn-gone, withdrawn-kept, withdrawn-live, withdrawn-frame, withdrawn-grant, withdrawn-revoked, withdrawn-cell, d-freed, none-freed}
 
 -- ENROL and CREATE "take the lowest unused space slot and the lowest run of free frames, and fill it with zeros". "Value:
 -- identification", the next, "never given twice".
@@ -86,14 +87,19 @@ pub record PermitsGo (before after : List Permit) (C : ℕ → Type 0) : Type 0 
   pub gone : (u h : ℕ) → IsGuest h → C u → grantAt after u h ≡ Nothing
   pub kept : (u h : ℕ) → IsGuest h → (C u → ⊥) → grantAt after u h ≡ grantAt before u h
 
+-- the cells of the frames of which G holds have key 0, mark off, and every other stands as it stood
+pub record CellsGo (before after : List Cell) (G : ℕ → Type 0) : Type 0 where
+  pub gone : (f : ℕ) → G f → cellAt after f ≡ noCell
+  pub kept : (f : ℕ) → (G f → ⊥) → cellAt after f ≡ cellAt before f
+
 -- x becomes y: it is revoked where it was valid for a slot of which L holds, and else stays
 pub record Withdrawn (L : ℕ → Type 0) (x y : Entry) : Type 0 where
   pub lost : (u : ℕ) (r : Right) → x .standing ≡ Valid u r → L u → y ≡ record { standing = Revoked; sequence = x .sequence }
   pub kept : ((u : ℕ) (r : Right) → x .standing ≡ Valid u r → L u → ⊥) → y ≡ x
 
--- guests, registers, modes, the next identification and all bytes stay
+-- guests, registers, modes, access keys, the next identification and all bytes stay
 pub record RestStays (s : State) (d : Decision) : Type 0 where
-  pub tables : after s d ≡ withEntries (withPermits (withSpaces s (after s d .spaces)) (after s d .permits)) (after s d .entries)
+  pub tables : after s d ≡ withCells (withEntries (withPermits (withSpaces s (after s d .spaces)) (after s d .permits)) (after s d .entries)) (after s d .cells)
   pub bytes : d .effect ≡ none
 
 -- DESTROY: "Every valid entry for it, in every list, becomes revoked. Permits vanish; frames are free for use again."
@@ -106,6 +112,7 @@ pub record DestroyEffect (s : State) (g i : ℕ) (d : Decision) : Type 0 where
   pub frames : (u p q : ℕ) → Live (after s d .spaces) u → p < spaceAt (after s d .spaces) u .pages → q < spaceAt (s .spaces) slot .pages → frameOf (layout (after s d)) u p ≢ frameOf (layout s) slot q
   pub permits : PermitsGo (s .permits) (after s d .permits) (λ u. u ≡ slot)
   pub entries : (h n : ℕ) → IsGuest h → IsEntry n → Withdrawn (λ u. u ≡ slot) (entryAt (s .entries) h n) (entryAt (after s d .entries) h n)
+  pub cells : CellsGo (s .cells) (after s d .cells) (HasFrame (layout s) (s .spaces) slot)
   pub rest : RestStays s d
 
 -- ISOLATE: "All permits for it go; other guests' valid entries for it become revoked, the owner's stay."
@@ -116,6 +123,7 @@ pub record IsolateEffect (s : State) (g i : ℕ) (d : Decision) : Type 0 where
   pub spaces : SpacesGo (s .spaces) (after s d .spaces) (λ u. ⊥)
   pub permits : PermitsGo (s .permits) (after s d .permits) (λ u. u ≡ slot)
   pub entries : (h n : ℕ) → IsGuest h → IsEntry n → Withdrawn (λ u. (u ≡ slot) × (h ≢ g)) (entryAt (s .entries) h n) (entryAt (after s d .entries) h n)
+  pub cells : after s d .cells ≡ s .cells
   pub rest : RestStays s d
 
 -- RESET: "all the caller's entries become unused, its data spaces are destroyed, its primary is isolated. Primary bytes,
@@ -124,12 +132,16 @@ pub record Owned (s : State) (g u : ℕ) : Type 0 where
   pub live : Live (s .spaces) u
   pub owner : spaceAt (s .spaces) u .owner ≡ g
 
+abbrev pub OwnedData : State → (guest slot : ℕ) → Type 0
+OwnedData s g u = Owned s g u × (spaceAt (s .spaces) u .name ≢ baseName)
+
 pub record ResetEffect (s : State) (g : ℕ) (d : Decision) : Type 0 where
   pub unused : (n : ℕ) → IsEntry n → entryAt (after s d .entries) g n .standing ≡ Unused
   pub released : (n : ℕ) → IsEntry n → entryAt (after s d .entries) g n ≡ released (entryAt (s .entries) g n)
-  pub spaces : SpacesGo (s .spaces) (after s d .spaces) (λ u. Owned s g u × (spaceAt (s .spaces) u .name ≢ baseName))
+  pub spaces : SpacesGo (s .spaces) (after s d .spaces) (OwnedData s g)
   pub permits : PermitsGo (s .permits) (after s d .permits) (Owned s g)
   pub entries : (h n : ℕ) → h ≢ g → IsGuest h → IsEntry n → Withdrawn (Owned s g) (entryAt (s .entries) h n) (entryAt (after s d .entries) h n)
+  pub cells : CellsGo (s .cells) (after s d .cells) (λ f. (u : ℕ) × (OwnedData s g u × HasFrame (layout s) (s .spaces) u f))
   pub rest : RestStays s d
 
 -- One law of making serves both.
@@ -161,6 +173,12 @@ module _ (s : State) (gone closed : ℕ → Bool) where
   spaces-go G d = record {
     gone = λ u y. withdrawn-gone s gone closed u (d u .of y);
     kept = λ u n. withdrawn-kept s gone closed u (not-so (gone u) (λ e. n (d u .to e)));
+  }
+
+  cells-go : (G : ℕ → Type 0) → ((f : ℕ) → Decides (freed (layout s) (s .spaces) gone f) (G f)) → CellsGo (s .cells) (withdrawn gone closed s .cells) G
+  cells-go G d = record {
+    gone = λ f y. withdrawn-cell s gone closed f ∙ yes! _ _ (d f .of y);
+    kept = λ f n. withdrawn-cell s gone closed f ∙ no! _ _ (not-so _ (λ e. n (d f .to e)));
   }
 
   permits-go : (C : ℕ → Type 0) → ((u : ℕ) → Decides (closed u) (C u)) → PermitsGo (s .permits) (withdrawn gone closed s .permits) C
@@ -265,11 +283,13 @@ module _ (s : State) (m : ℕ) (c : Caller) (n : ℕ) where
         permits = permits-go s (eqb u) (eqb u) (λ v. v ≡ u) (d-same u);
         entries = λ h k. entry-withdrawn s (eqb u) (eqb u) (λ v. v ≡ u) h k (λ v.
             d-map (⊎-elim (λ e. e) (λ e. e .0)) (λ e. inl e) (d-either (d-same u v) (d-both (d-same u v) (d-not (d-eq (spaceAt (s .spaces) v .owner) h)))));
+        cells = cells-go s (eqb u) (eqb u) (HasFrame (layout s) (s .spaces) u) (λ f.
+            d-map (λ (v, b, (e, h)). rw (eqb-true u v e) h) (λ h. (u, p .owning .slot, (eq-eqb u u refl, h))) (d-freed (layout s) (s .spaces) (eqb u) f));
         rest = rest-stays s (eqb u) (eqb u) _ refl;
       })
 
   pub isolate-does : (i : ℕ) → Done s m c n (Isolate i) → IsolateEffect s g i (by s m c n (Isolate i))
-  unfolding Performed loses
+  unfolding Performed loses withdrawn
   isolate-does i done =
       let p = all s m c n (Isolate i) done .performed in
       let u = slotOf (s .spaces) i in
@@ -284,6 +304,7 @@ module _ (s : State) (m : ℕ) (c : Caller) (n : ℕ) where
         entries = λ h k. entry-withdrawn s keep (eqb u) (λ v. (v ≡ u) × (h ≢ g)) h k (λ v.
             d-map (⊎-elim (λ z. absurd z) (λ e. (e .0, λ q. e .1 (owner v (e .0) ∙ sym q)))) (λ e. inr (e .0, λ q. e .1 (sym q ∙ owner v (e .0))))
             (d-either d-never (d-both (d-same u v) (d-not (d-eq (spaceAt (s .spaces) v .owner) h)))));
+        cells = none-freed (layout s) (s .spaces) (s .cells);
         rest = rest-stays s keep (eqb u) _ refl;
       })
 
@@ -295,7 +316,7 @@ module _ (s : State) (m : ℕ) (c : Caller) (n : ℕ) where
       let gone : ℕ → Bool = λ u. isData g (spaceAt (s .spaces) u) in
       let closed : ℕ → Bool = λ u. isOwned g (spaceAt (s .spaces) u) in
       let es = withdrawn gone closed s .entries in
-      let d-data : (u : ℕ) → Decides (gone u) (Owned s g u × (spaceAt (s .spaces) u .name ≢ baseName)) = λ u. d-both (d-owned s g u) (d-not (d-eq _ baseName)) in
+      let d-data : (u : ℕ) → Decides (gone u) (OwnedData s g u) = λ u. d-both (d-owned s g u) (d-not (d-eq _ baseName)) in
       rw (p .is) (record {
         unused = λ k j. ap (λ (x : Entry). x .standing) (released-own es g k i j) ∙ released-unused (entryAt es g k);
         released = λ k j. released-own es g k i j ∙ ap released (withdrawn-revoked s gone closed g k i j) ∙ released-revoked _ (entryAt (s .entries) g k);
@@ -304,5 +325,8 @@ module _ (s : State) (m : ℕ) (c : Caller) (n : ℕ) where
         entries = λ h k ne a j. rw (released-other es g h k ne a j) (entry-withdrawn s gone closed (Owned s g) h k (λ u.
             d-map (⊎-elim (λ e. e .0) (λ e. e .0)) (λ o. inr (o, λ q. ne (sym q ∙ o .owner)))
             (d-either (d-data u) (d-both (d-owned s g u) (d-not (d-eq (spaceAt (s .spaces) u .owner) h))))) a j);
+        cells = cells-go s gone closed _ (λ f.
+            d-map (λ (u, b, (e, h)). (u, (d-data u .to e, h))) (λ (u, (o, h)). (u, live-slot (s .spaces) u 32 (ok s m c n Reset done .spaces .len) (o .0 .live), (d-data u .of o, h)))
+            (d-freed (layout s) (s .spaces) gone f));
         rest = record { tables = refl; bytes = refl };
       })

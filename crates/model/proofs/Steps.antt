@@ -6,7 +6,7 @@ use lib.ListN.{length}
 use Rattle.lists.specs.Choice.{either}
 use Rattle.lists.proofs.Choice.{true-false}
 use Rattle.model.specs.declared.Operation.{Operation}
-use Rattle.model.specs.declared.Operation.the-variants.{Enrol, Create, Destroy, Permit, Isolate, Query, Add, Remove, Load, Mode, Fetch, Store, Reset}
+use Rattle.model.specs.declared.Operation.the-variants.{Enrol, Create, Destroy, Permit, Isolate, Query, Add, Remove, Load, Mode, Fetch, Store, Reset, Key, Block}
 use Rattle.model.specs.Answers.{number}
 use Rattle.model.specs.Calls.{ready}
 use Rattle.model.specs.Decision.{Decision, after}
@@ -32,6 +32,8 @@ no-row (Mode m) = refl
 no-row (Fetch register address) = refl
 no-row (Store register address) = refl
 no-row Reset = refl
+no-row (Key key) = refl
+no-row (Block id address key mark) = refl
 
 pub never-21 : (m : Machine) (i : Issue) → number (step m i .answer) ≢ 21
 unfolding step

@@ -14,7 +14,7 @@ use Rattle.model.specs.declared.Operation.the-variants.{Fetch, Store}
 use Rattle.model.specs.declared.State.{State}
 use Rattle.model.specs.Answers.{number}
 use Rattle.model.specs.Arguments.{arguments, checkAll}
-use Rattle.model.specs.Calls.{access, accessAt, target, fetching, perform, enrols, goodCaller, judge, ready, decide}
+use Rattle.model.specs.Calls.{access, accessAt, target, fetching, perform, enrols, goodCaller, judge, ready, decide, accessKey}
 use Rattle.model.specs.Decision.{Decision, fetch, store, accept, check}
 use Rattle.model.specs.Frames.{bytesOf, sizeOf}
 use Rattle.model.specs.Granted.{Accessed, Performed, AllFit, Granted}
@@ -25,6 +25,7 @@ use Rattle.model.proofs.Reached.{reached-live}
 use Rattle.model.proofs.Refusals.{done-granted}
 use Rattle.model.proofs.Sound.{ready-to, ready-of, ready-kept}
 use Rattle.model.proofs.SpaceBytes.{store-fetch, store-own, store-other}
+use Rattle.model.proofs.Keys.{store-fetches}
 
 abbrev storeOf : Caller → (register address : ℕ) → List ℕ → Issue
 storeOf c r a b = record { call = record { caller = c; operation = Store r a }; buffer = b }
@@ -70,7 +71,15 @@ module _ (m : Machine) (c : Caller) (r a : ℕ) (b : List ℕ) (done : number (s
   fetch-decision : (n : ℕ) → ready s n ≡ true → decide s n (fetchOf c r a b .call) (length b) ≡ accept 0 Keep (fetch (found .slot) a)
   unfolding decide judge check checkAll arguments AllFit goodCaller enrols choose perform fetching access accessAt implies
   fetch-decision n e =
-      rw (e, all .caller, all .arguments .0, all .arguments .1 .0, found .reached, le-leb (a + length b) (sizeOf (s .spaces) (found .slot)) (found .inside))
+      rw (
+        e,
+        all .caller,
+        all .arguments .0,
+        all .arguments .1 .0,
+        found .reached,
+        le-leb (a + length b) (sizeOf (s .spaces) (found .slot)) (found .inside),
+        store-fetches s (accessKey s c) (found .slot) a (length b) (found .key),
+      )
 
   abbrev then : List ℕ → Outcome
   then e = step (step m (storeOf c r a b) .machine) (fetchOf c r a e)

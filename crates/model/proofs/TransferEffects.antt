@@ -1,6 +1,7 @@
--- What a done LOAD, MODE, FETCH and STORE do, in the words of their rows in paper 01, and which token a register stands for.
+-- What a done LOAD, MODE, KEY, FETCH and STORE do, in the words of their rows in the papers, and which token a register stands
+-- for.
 -- Assumes nothing.
-use Prim.Native.Nat.{ℕ, _+_, _≤_}
+use Prim.Native.Nat.{ℕ, _+_, _≤_, _<_}
 use mathlib.Core.Bool.{Bool, true, false}
 use mathlib.Core.List.{List}
 use mathlib.Core.Logic.{_≢_, _⊎_, inl, ⊎-elim}
@@ -15,23 +16,25 @@ use Rattle.lists.specs.Choice.{choose, both}
 use Rattle.lists.proofs.Choice.{true-false}
 use Rattle.model.specs.declared.Caller.{Caller}
 use Rattle.model.specs.declared.Cpu.{Cpu}
-use Rattle.model.specs.declared.Operation.the-variants.{Load, Mode, Fetch, Store}
+use Rattle.model.specs.declared.Operation.the-variants.{Load, Mode, Fetch, Store, Key}
 use Rattle.model.specs.declared.Right.{Right}
 use Rattle.model.specs.declared.Right.the-variants.{Read, Write}
 use Rattle.model.specs.declared.State.{State}
 use Rattle.model.specs.Arguments.{arguments}
-use Rattle.model.specs.Calls.{writes, target, enrols, goodCaller}
+use Rattle.model.specs.Calls.{writes, target, accessKey, enrols, goodCaller}
 use Rattle.model.specs.Decision.{Decision, after, Effect, store}
 use Rattle.model.specs.Frames.{sizeOf, bytesOf}
 use Rattle.model.specs.Granted.{Accessed, Performed, AllFit}
+use Rattle.model.specs.Keys.{blockAt}
 use Rattle.model.specs.Names.{baseName}
 use Rattle.model.specs.Searches.{enrolled, primarySlot}
 use Rattle.model.specs.Sound.{Live, IsGuest, Sound}
 use Rattle.model.specs.Step.{scratchAfter, bufferAfter}
-use Rattle.model.specs.Tables.{noCpu, guestAt, cpuAt, cpuPlace, withCpus}
+use Rattle.model.specs.Tables.{noCpu, guestAt, cpuAt, cpuPlace, withCpus, withRegisters, withMode, withKey}
 use Rattle.model.specs.Through.{ThroughPrimary, ThroughEntry}
 use Rattle.model.specs.Tokens.{entryNumber, tokenUsed}
 use Rattle.model.proofs.Effects.{May, by, Done, all, ok, guest}
+use Rattle.model.proofs.Keys.{KeyAllows, keys-decide}
 use Rattle.model.proofs.Reached.{reached, reached-live}
 use Rattle.model.proofs.Searches.{enrolled-guest, primary-lt, named-found}
 use Rattle.model.proofs.SpaceBytes.{fetch-bytes}
@@ -69,31 +72,38 @@ one-cpu s c x ok i = record {
   rest = refl;
 }
 
--- LOAD changes one register, MODE the mode
+-- LOAD changes one register, MODE the mode, KEY the access key
 pub record LoadEffect (s t : State) (c : Caller) (r v : ℕ) : Type 0 where
   pub loaded : getD (cpuAt (t .cpus) (cpuPlace c) .registers) r 0 ≡ v
   pub registers : (q : ℕ) → q ≢ r → getD (cpuAt (t .cpus) (cpuPlace c) .registers) q 0 ≡ getD (cpuAt (s .cpus) (cpuPlace c) .registers) q 0
   pub mode : cpuAt (t .cpus) (cpuPlace c) .mode ≡ cpuAt (s .cpus) (cpuPlace c) .mode
+  pub key : cpuAt (t .cpus) (cpuPlace c) .key ≡ cpuAt (s .cpus) (cpuPlace c) .key
   pub others : (k : ℕ) → k ≢ cpuPlace c → cpuAt (t .cpus) k ≡ cpuAt (s .cpus) k
   pub rest : t ≡ withCpus s (t .cpus)
 
 pub record ModeEffect (s t : State) (c : Caller) (m : ℕ) : Type 0 where
   pub asf : m ≡ 1 → guestAt (s .guests) (c .guest) .asf ≡ true
-  pub cpu : OneCpu s t c (record { registers = cpuAt (s .cpus) (cpuPlace c) .registers; mode = eqb m 1 })
+  pub cpu : OneCpu s t c (withMode (cpuAt (s .cpus) (cpuPlace c)) (eqb m 1))
+
+-- "A guest's KEY call sets its access key"
+pub record KeyEffect (s t : State) (c : Caller) (k : ℕ) : Type 0 where
+  pub small : k ≤ 15
+  pub cpu : OneCpu s t c (withKey (cpuAt (s .cpus) (cpuPlace c)) k)
 
 -- FETCH and STORE reach the guest's primary space, or the space of the token's valid entry; n bytes from address a on lie
--- inside it, and the guest owns it or is permitted the entry's right.
-pub record Reaches (s : State) (c : Caller) (r a n u : ℕ) (x : Right) : Type 0 where
+-- inside it, the guest owns it or is permitted the entry's right, and the block of each of these bytes allows the access.
+pub record Reaches (s : State) (c : Caller) (r a n u : ℕ) (x : Right) (storing : Bool) : Type 0 where
   pub through : ThroughPrimary s (c .guest) (tokenUsed (cpuAt (s .cpus) (cpuPlace c)) r) u x ⊎ ThroughEntry s (c .guest) (tokenUsed (cpuAt (s .cpus) (cpuPlace c)) r) u x
   pub live : Live (s .spaces) u
   pub may : May s (c .guest) u x
   pub inside : a + n ≤ sizeOf (s .spaces) u
+  pub key : (i : ℕ) → i < n → KeyAllows storing (accessKey s c) (blockAt s u (a + i))
 
 -- "Bytes of the fetch go to the buffer", for any scratch m and buffer b
 pub record FetchEffect (s : State) (c : Caller) (r a n : ℕ) (d : Decision) : Type 0 where
   pub slot : ℕ
   pub right : Right
-  pub reaches : Reaches s c r a n slot right
+  pub reaches : Reaches s c r a n slot right false
   pub buffer : (m b : List ℕ) → length b ≡ n → bufferAfter (after s d) (d .effect) m b ≡ part (bytesOf s slot m) a n
   pub scratch : (m b : List ℕ) → scratchAfter (after s d) (d .effect) m b ≡ m
   pub tables : after s d ≡ s
@@ -101,7 +111,7 @@ pub record FetchEffect (s : State) (c : Caller) (r a n : ℕ) (d : Decision) : T
 -- "a store replaces only the bytes named" (proofs/StoreFetch); "protection: store through a read entry"
 pub record StoreEffect (s : State) (c : Caller) (r a n : ℕ) (d : Decision) : Type 0 where
   pub slot : ℕ
-  pub reaches : Reaches s c r a n slot Write
+  pub reaches : Reaches s c r a n slot Write true
   pub effect : d .effect ≡ store slot a
   pub tables : after s d ≡ s
 
@@ -118,12 +128,13 @@ module _ (s : State) (m : ℕ) (c : Caller) (n : ℕ) where
       let i = guest s m c n (Load r v) refl done in
       let fine = ok s m c n (Load r v) done in
       let b = cpuAt (s .cpus) (cpuPlace c) in
-      let one = one-cpu s c (record { registers = set (b .registers) r v; mode = b .mode }) fine i in
+      let one = one-cpu s c (withRegisters b (set (b .registers) r v)) fine i in
       rw (p .is) (record {
         loaded = ap (λ (x : Cpu). getD (x .registers) r 0) (one .cpu)
             ∙ getD-set-same (b .registers) r v 0 (omega (arith, fine .guests .registers (cpuPlace c) (omega (arith, i .low, i .high)), leb-true r 15 (all s m c n (Load r v) done .arguments .0)));
         registers = λ q ne. ap (λ (x : Cpu). getD (x .registers) q 0) (one .cpu) ∙ getD-set-other (b .registers) r q v 0 ne;
         mode = ap (λ (x : Cpu). x .mode) (one .cpu);
+        key = ap (λ (x : Cpu). x .key) (one .cpu);
         others = one .others;
         rest = refl;
       })
@@ -134,7 +145,13 @@ module _ (s : State) (m : ℕ) (c : Caller) (n : ℕ) where
       let p = all s m c n (Mode k) done .performed in
       rw (p .is) (record { asf = p .asf; cpu = one-cpu s c _ (ok s m c n (Mode k) done) (guest s m c n (Mode k) refl done) })
 
-  reaches : (r a : ℕ) (storing : Bool) (f : ℕ → Effect) (d : Decision) → Sound s → enrolled (s .guests) (c .guest) ≡ true → (p : Accessed s c r a n storing f d) → Reaches s c r a n (p .slot) (p .right)
+  pub key-does : (k : ℕ) → Done s m c n (Key k) → KeyEffect s (after s (by s m c n (Key k))) c k
+  unfolding Performed enrols arguments AllFit
+  key-does k done =
+      let p = all s m c n (Key k) done .performed in
+      rw (p .is) (record { small = leb-true k 15 (all s m c n (Key k) done .arguments .0); cpu = one-cpu s c _ (ok s m c n (Key k) done) (guest s m c n (Key k) refl done) })
+
+  reaches : (r a : ℕ) (storing : Bool) (f : ℕ → Effect) (d : Decision) → Sound s → enrolled (s .guests) (c .guest) ≡ true → (p : Accessed s c r a n storing f d) → Reaches s c r a n (p .slot) (p .right) storing
   unfolding target primarySlot
   reaches r a storing f d fine on p =
       let g = c .guest in
@@ -148,6 +165,7 @@ module _ (s : State) (m : ℕ) (c : Caller) (n : ℕ) where
             (λ q. fine .entries .ground g (entryNumber t) (p .slot) (p .right) (enrolled-guest (s .guests) g on) (formed t (q .token) (q .formed) .entry) (q .valid) .right)
             through;
         inside = p .inside;
+        key = keys-decide s storing (accessKey s c) (p .slot) a n .to (p .key);
       }
 
   pub store-does : (r a : ℕ) → Done s m c n (Store r a) → StoreEffect s c r a n (by s m c n (Store r a))

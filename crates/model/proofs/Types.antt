@@ -3,7 +3,8 @@ use Prim.Native.Nat.{_*_}
 use mathlib.Core.List.{[], _∷_}
 use mathlib.Core.Path.{_≡_, refl}
 use denote.Struct.Field.{u8-field, u16-field, u32-field, u64-field, bool-field, array-field}
-use Rattle.model.specs.Sizes.{guestCount, slotCount, registerCount, maxList}
+use Rattle.model.specs.Sizes.{guestCount, slotCount, registerCount, maxFrames, maxList}
+use Rattle.model.proofs.Cell as cell
 use Rattle.model.proofs.Cpu as cpu
 use Rattle.model.proofs.Entry as entry
 use Rattle.model.proofs.Guest as guest
@@ -24,12 +25,17 @@ pub state-fields : state.struct .parts ≡
     ∷ array-field cpu.the-field guestCount
     ∷ array-field permit.the-field (slotCount * guestCount)
     ∷ array-field entry.the-field (guestCount * maxList)
+    ∷ array-field cell.the-field maxFrames
     ∷ []
 state-fields = refl
 
--- "Sixteen access registers per guest, each 32 bits"
-pub cpu-fields : cpu.struct .parts ≡ array-field u32-field registerCount ∷ bool-field ∷ []
+-- "Sixteen access registers per guest, each 32 bits"; paper 02, M-100: an access key
+pub cpu-fields : cpu.struct .parts ≡ array-field u32-field registerCount ∷ bool-field ∷ u8-field ∷ []
 cpu-fields = refl
+
+-- paper 02, M-100: "Each frame of a space gets a 4-bit key and a fetch-protect mark"
+pub cell-fields : cell.struct .parts ≡ u8-field ∷ bool-field ∷ []
+cell-fields = refl
 
 -- a sequence of 8 bits: "it wraps from 255 to 0"
 pub entry-fields : entry.struct .parts ≡ standing.the-field ∷ u8-field ∷ []
@@ -44,7 +50,7 @@ pub standing-fields : standing.parts ≡ [] ∷ (u8-field ∷ right.the-field �
 standing-fields = refl
 
 -- arguments of 32 bits, and names of 64: ENROL, CREATE, DESTROY, PERMIT, ISOLATE, QUERY, ADD, REMOVE, LOAD, MODE, FETCH,
--- STORE, RESET
+-- STORE, RESET, KEY, BLOCK
 pub settings-fields : settings.struct .parts ≡ u32-field ∷ u32-field ∷ u32-field ∷ u32-field ∷ u32-field ∷ []
 settings-fields = refl
 
@@ -62,5 +68,7 @@ pub operation-fields : operation.parts ≡
     ∷ (u32-field ∷ u32-field ∷ [])
     ∷ (u32-field ∷ u32-field ∷ [])
     ∷ []
+    ∷ (u32-field ∷ [])
+    ∷ (u32-field ∷ u32-field ∷ u32-field ∷ u32-field ∷ [])
     ∷ []
 operation-fields = refl

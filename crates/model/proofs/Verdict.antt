@@ -9,13 +9,13 @@ use borrow.Author.Tests.{eqb-true, eqb-false, eq-eqb, leb-true, ltb-true}
 use Rattle.lists.specs.Choice.{both, either, implies}
 use Rattle.lists.proofs.Choice.{true-false, not-to, both-left, both-right, either-not-left, either-not-right, implies-to, implies-not, choose-elim}
 use Rattle.model.specs.declared.Answer.{Answer}
-use Rattle.model.specs.declared.Answer.the-variants.{Unsound, BadCaller, Limit, NameTaken, NoSpace, NotOwner, NoSharing, AllowanceUsed, SlotsUsed, NoRun, NoIdentification, NotPermitted, ListFull, AletSpecification, AlenTranslation, AddressingCapability, Addressing, Protection, SpecialOperation, PrimarySpace}
+use Rattle.model.specs.declared.Answer.the-variants.{Unsound, BadCaller, Limit, NameTaken, NoSpace, NotOwner, NoSharing, AllowanceUsed, SlotsUsed, NoRun, NoIdentification, NotPermitted, ListFull, AletSpecification, AlenTranslation, AddressingCapability, Addressing, Protection, SpecialOperation, PrimarySpace, KeyProtection}
 use Rattle.model.specs.declared.Call.{Call}
 use Rattle.model.specs.declared.Caller.{Caller}
 use Rattle.model.specs.declared.Change.{Change}
 use Rattle.model.specs.declared.Change.the-variants.{Keep}
 use Rattle.model.specs.declared.Operation.{Operation}
-use Rattle.model.specs.declared.Operation.the-variants.{Enrol, Create, Destroy, Permit, Isolate, Query, Add, Remove, Load, Mode, Fetch, Store, Reset}
+use Rattle.model.specs.declared.Operation.the-variants.{Enrol, Create, Destroy, Permit, Isolate, Query, Add, Remove, Load, Mode, Fetch, Store, Reset, Key, Block}
 use Rattle.model.specs.declared.Right.{Right}
 use Rattle.model.specs.declared.Right.the-variants.{Read}
 use Rattle.model.specs.declared.Standing.{Standing}
@@ -25,10 +25,11 @@ use Rattle.model.specs.declared.Translation.{Translation}
 use Rattle.model.specs.declared.Translation.the-variants.{Reached, Refused}
 use Rattle.model.specs.Answers.{number}
 use Rattle.model.specs.Arguments.{Argument, arguments, checkAll}
-use Rattle.model.specs.Calls.{making, enrol, create, owning, destroy, permit, isolate, entitled, query, add, remove, load, mode, writes, accessAt, access, target, fetching, storing, reset, perform, goodCaller, judge, ready, decide}
+use Rattle.model.specs.Calls.{making, enrol, create, owning, destroy, permit, isolate, entitled, query, add, remove, load, mode, writes, accessAt, access, target, accessKey, fetching, storing, reset, setKey, block, perform, goodCaller, judge, ready, decide}
 use Rattle.model.specs.Decision.{Decision, Effect, fetch, store, refuse, accept, check}
 use Rattle.model.specs.Frames.{sizeOf}
 use Rattle.model.specs.Granted.{Made, Owning, Accessed, Performed, AllFit, Granted}
+use Rattle.model.specs.Keys.{keyPermits}
 use Rattle.model.specs.Names.{baseName}
 use Rattle.model.specs.Searches.{slotOf, slotNamed, dataSpaces, freeSlot, freeRun, freeEntry}
 use Rattle.model.specs.Tables.{spaceAt, guestAt, entryAt}
@@ -104,15 +105,19 @@ module _ (s : State) (c : Caller) (row : List ℕ) (r a n : ℕ) (storing : Bool
   abbrev Fetched : Decision → Type 0
   Fetched = Accessed s c r a n storing f
 
-  access-verdict : listed 14 row ≡ true → listed 15 row ≡ true → listed 16 row ≡ true → listed 17 row ≡ true → (storing ≡ true → listed 18 row ≡ true) → Verdict row Fetched (access s a n storing f (target s c r))
+  access-verdict : listed 14 row ≡ true → listed 15 row ≡ true → listed 16 row ≡ true → listed 17 row ≡ true → (storing ≡ true → listed 18 row ≡ true) → listed 22 row ≡ true
+      → Verdict row Fetched (access s (accessKey s c) a n storing f (target s c r))
   unfolding access accessAt number check target
-  access-verdict l14 l15 l16 l17 l18 = go (target s c r) refl
+  access-verdict l14 l15 l16 l17 l18 l22 = go (target s c r) refl
     where
-      protect : (u : ℕ) (x : Right) → target s c r ≡ Reached u x → a + n ≤ sizeOf (s .spaces) u → (b : Bool) → implies storing (writes x) ≡ b → Verdict row Fetched (check b Protection (accept 0 Keep (f u)))
-      protect u x e i true w = granted (record { slot = u; right = x; reached = e; inside = i; writable = implies-to storing (writes x) w; is = refl })
+      protect : (u : ℕ) (x : Right) → target s c r ≡ Reached u x → a + n ≤ sizeOf (s .spaces) u → (b : Bool) → implies storing (writes x) ≡ b
+          → Verdict row Fetched (check b Protection (check (keyPermits s storing (accessKey s c) u a n) KeyProtection (accept 0 Keep (f u))))
+      protect u x e i true w =
+          check-verdict row Fetched (keyPermits s storing (accessKey s c) u a n) KeyProtection _ refl l22 (λ k.
+          granted (record { slot = u; right = x; reached = e; inside = i; writable = implies-to storing (writes x) w; key = k; is = refl }))
       protect u x e i false w = refusal row Fetched Protection refl (l18 (implies-not storing (writes x) w))
 
-      go : (t : Translation) → target s c r ≡ t → Verdict row Fetched (access s a n storing f t)
+      go : (t : Translation) → target s c r ≡ t → Verdict row Fetched (access s (accessKey s c) a n storing f t)
       go (Reached u x) e =
           check-verdict row Fetched (leb (a + n) (sizeOf (s .spaces) u)) Addressing _ refl l17 (λ i.
           protect u x e (leb-true _ _ i) (implies storing (writes x)) refl)
@@ -129,7 +134,7 @@ module _ (s : State) (c : Caller) where
   Fine k n = Verdict (row k) (Performed s c k n) (perform s c k n)
 
   performed : (k : Operation) (n : ℕ) → Fine k n
-  unfolding perform Performed row ownRow listed number either enrol create destroy permit isolate query add remove load mode fetching storing reset
+  unfolding perform Performed row ownRow listed number either enrol create destroy permit isolate query add remove load mode fetching storing reset setKey block
   performed (Enrol x) n = making-verdict s _ (x .pages) _ refl refl refl
   performed (Create name pages) n =
       check-verdict _ _ (leb 32 (slotNamed (s .spaces) (c .guest) name)) NameTaken _ refl refl (λ e1.
@@ -162,9 +167,14 @@ module _ (s : State) (c : Caller) where
   performed (Mode m) n =
       check-verdict _ _ (implies (eqb m 1) (guestAt (s .guests) (c .guest) .asf)) SpecialOperation _ refl refl (λ e.
       granted (record { asf = λ q. implies-to (eqb m 1) _ e (eq-eqb m 1 q); is = refl }))
-  performed (Fetch register address) n = access-verdict s c _ register address n false (λ u. fetch u address) refl refl refl refl (λ e. true-false e refl)
-  performed (Store register address) n = access-verdict s c _ register address n true (λ u. store u address) refl refl refl refl (λ _. refl)
+  performed (Fetch register address) n = access-verdict s c _ register address n false (λ u. fetch u address) refl refl refl refl (λ e. true-false e refl) refl
+  performed (Store register address) n = access-verdict s c _ register address n true (λ u. store u address) refl refl refl refl (λ _. refl) refl
   performed Reset n = granted (record { is = refl })
+  performed (Key key) n = granted (record { is = refl })
+  performed (Block id address key mark) n =
+      owning-verdict s _ _ (c .guest) (slotOf (s .spaces) id) _ refl refl (λ o.
+      check-verdict _ _ (ltb address (sizeOf (s .spaces) (slotOf (s .spaces) id))) Addressing _ refl refl (λ e.
+      granted (record { owning = o; inside = ltb-true _ _ e; is = refl })))
 
   -- 3 is in the row of each call that has arguments with limits
   lists-3 : (k : Operation) (n : ℕ) → Lists3 (arguments (s .guests) c k n) (row k)
@@ -182,6 +192,8 @@ module _ (s : State) (c : Caller) where
   lists-3 (Fetch register address) n = refl
   lists-3 (Store register address) n = refl
   lists-3 Reset n = tt
+  lists-3 (Key key) n = refl
+  lists-3 (Block id address key mark) n = refl
 
 -- Checks 2 and 3, and the call.
 record Judged (s : State) (k : Call) (n : ℕ) (d : Decision) : Type 0 where

@@ -1,6 +1,6 @@
 -- Withdrawing spaces, the one change of DESTROY, ISOLATE and RESET: what stands where after it, and that it keeps a sound
 -- state sound. Assumes nothing.
-use Prim.Native.Nat.{ℕ, _+_}
+use Prim.Native.Nat.{ℕ, _+_, _≤_, _<_}
 use mathlib.Core.Bool.{Bool, true, false, not}
 use mathlib.Core.List.{List}
 use mathlib.Core.Logic.{_≢_, _⊎_, inl, inr}
@@ -10,9 +10,12 @@ use lib.Dec.{eqb}
 use lib.ListN.{length, getD}
 use borrow.Author.Tests.{eqb-true, not-false}
 use Rattle.lists.specs.Choice.{choose}
+use Rattle.lists.specs.Decides.{Decides}
 use Rattle.lists.proofs.Choice.{true-false, not-so, true-or-false, yes!, no!, choose-elim, choose-same, both-left, both-right, both-yes, both-no, either-not-left, either-not-right}
 use Rattle.lists.proofs.Counts.{count-same, count-le}
-use Rattle.lists.proofs.Maps.{length-mapPlaces, map-at}
+use Rattle.lists.proofs.Decides.{d-is, d-both, d-some}
+use Rattle.lists.proofs.Maps.{length-mapPlaces, map-at, map-same}
+use Rattle.model.specs.declared.Cell.{Cell}
 use Rattle.model.specs.declared.Entry.{Entry}
 use Rattle.model.specs.declared.Grant.the-variants.{Nothing}
 use Rattle.model.specs.declared.Permit.{Permit}
@@ -22,13 +25,15 @@ use Rattle.model.specs.declared.Space.{Space}
 use Rattle.model.specs.declared.Standing.{Standing}
 use Rattle.model.specs.declared.Standing.the-variants.{Unused, Valid, Revoked}
 use Rattle.model.specs.declared.State.{State}
-use Rattle.model.specs.Changes.{allows, revokedFrom, revoked, permitSlot, vacated, unpermitted, loses, revokedAll, withdrawn}
-use Rattle.model.specs.Frames.{layout, frameOf}
+use Rattle.model.specs.Changes.{allows, revokedFrom, revoked, permitSlot, vacated, unpermitted, freed, blanked, loses, revokedAll, withdrawn}
+use Rattle.model.specs.Frames.{Layout, layout, frameOf}
 use Rattle.model.specs.Names.{baseName}
 use Rattle.model.specs.Searches.{isOwned, isPrimary, isData, primaries, dataSpaces}
-use Rattle.model.specs.Sound.{Live, IsGuest, IsEntry, SpacesOk, GuestsOk, PermitsOk, EntriesOk, Sound}
-use Rattle.model.specs.Tables.{noSpace, noPermit, unusedEntry, spaceAt, permitPlace, grantAt, entryPlace, entryAt}
+use Rattle.model.specs.Sizes.{slotCount, maxKey}
+use Rattle.model.specs.Sound.{Live, IsGuest, IsEntry, SpacesOk, GuestsOk, PermitsOk, EntriesOk, HasFrame, Free, CellsOk, Sound}
+use Rattle.model.specs.Tables.{noSpace, noPermit, unusedEntry, noCell, cellAt, spaceAt, permitPlace, grantAt, entryPlace, entryAt}
 use Rattle.model.proofs.Entries.{list-owner, permit-slot}
+use Rattle.model.proofs.Runs.{d-has}
 use Rattle.model.proofs.Searches.{live-to}
 
 -- a standing that is still valid was the same, and the test spares its slot
@@ -52,11 +57,22 @@ module _ (ss : List Space) (gone closed : ℕ → Bool) (h u : ℕ) (e : loses s
   kept-owner c =
       eqb-true _ h (not-false _ (sym (both-yes (not (eqb (spaceAt ss u .owner) h)) c) ∙ either-not-right (gone u) _ e))
 
+-- a frame is freed where it is one of a space that goes
+pub d-freed : (l : Layout) (ss : List Space) (gone : ℕ → Bool) (f : ℕ) → Decides (freed l ss gone f) ((u : ℕ) × (u < slotCount) × ((gone u ≡ true) × HasFrame l ss u f))
+unfolding freed
+d-freed l ss gone f = d-some slotCount (λ u. d-both (d-is (gone u)) (d-has l ss u f))
+
+-- where no space goes all cells stand
+pub none-freed : (l : Layout) (ss : List Space) (cs : List Cell) → blanked (freed l ss (λ u. false)) cs ≡ cs
+unfolding blanked
+none-freed l ss cs =
+    map-same _ cs noCell (λ f _. no! noCell _ (not-so _ (λ e. let (u, b, (gone, has)) = d-freed l ss (λ v. false) f .to e in true-false gone refl)))
+
 -- What stands where after a withdrawal.
 module _ (s : State) (gone closed : ℕ → Bool) where
-  pub withdrawn-lengths : (length (withdrawn gone closed s .spaces) ≡ length (s .spaces)) × (length (withdrawn gone closed s .permits) ≡ length (s .permits)) × (length (withdrawn gone closed s .entries) ≡ length (s .entries))
-  unfolding withdrawn vacated unpermitted revokedAll
-  withdrawn-lengths = (length-mapPlaces _ (s .spaces), length-mapPlaces _ (s .permits), length-mapPlaces _ (s .entries))
+  pub withdrawn-lengths : (length (withdrawn gone closed s .spaces) ≡ length (s .spaces)) × (length (withdrawn gone closed s .permits) ≡ length (s .permits)) × (length (withdrawn gone closed s .entries) ≡ length (s .entries)) × (length (withdrawn gone closed s .cells) ≡ length (s .cells))
+  unfolding withdrawn vacated unpermitted revokedAll blanked
+  withdrawn-lengths = (length-mapPlaces _ (s .spaces), length-mapPlaces _ (s .permits), length-mapPlaces _ (s .entries), length-mapPlaces _ (s .cells))
 
   -- Spaces.
   pub withdrawn-space : (u : ℕ) → spaceAt (withdrawn gone closed s .spaces) u ≡ choose (gone u) noSpace (spaceAt (s .spaces) u)
@@ -79,6 +95,11 @@ module _ (s : State) (gone closed : ℕ → Bool) where
   pub withdrawn-frame : (u p : ℕ) → gone u ≡ false → frameOf (layout (withdrawn gone closed s)) u p ≡ frameOf (layout s) u p
   unfolding frameOf
   withdrawn-frame u p n = ap (λ (x : Space). x .first + p) (withdrawn-kept u n)
+
+  -- Cells. Those of freed frames have key 0, mark off.
+  pub withdrawn-cell : (f : ℕ) → cellAt (withdrawn gone closed s .cells) f ≡ choose (freed (layout s) (s .spaces) gone f) noCell (cellAt (s .cells) f)
+  unfolding withdrawn blanked
+  withdrawn-cell f = map-at _ (s .cells) noCell (λ k. choose-same (freed (layout s) (s .spaces) gone k) noCell) f
 
   -- Permits.
   pub withdrawn-grant : (u h : ℕ) → IsGuest h → grantAt (withdrawn gone closed s .permits) u h ≡ choose (closed u) Nothing (grantAt (s .permits) u h)
@@ -176,6 +197,7 @@ module _ (s : State) (gone closed : ℕ → Bool) (ok : Sound s)
     list-low = ok .guests .list-low;
     list-high = ok .guests .list-high;
     mode = ok .guests .mode;
+    key = ok .guests .key;
     absent = ok .guests .absent;
     idle = ok .guests .idle;
   }
@@ -220,6 +242,22 @@ module _ (s : State) (gone closed : ℕ → Bool) (ok : Sound s)
       still g u r i k (inr a) (inl c) = inl (kept-owner (s .spaces) gone closed g u k c)
       still g u r i k (inr a) (inr c) = inr (rw (withdrawn-grant s gone closed u g i, no! Nothing (grantAt (s .permits) u g) c) a)
 
+  -- a frame that is free after it was free before it, or is freed
+  sound-cells : CellsOk (withdrawn gone closed s .spaces) (layout (withdrawn gone closed s)) (withdrawn gone closed s .cells)
+  sound-cells = record {
+    len = withdrawn-lengths s gone closed .3 ∙ ok .cells .len;
+    key = λ f. rw (withdrawn-cell s gone closed f) (choose-elim (λ (c : Cell). c .key ≤ maxKey) (freed (layout s) (s .spaces) gone f) noCell (cellAt (s .cells) f) (λ _. omega arith) (λ _. ok .cells .key f));
+    free = λ f out. withdrawn-cell s gone closed f
+        ∙ choose-elim (λ (c : Cell). c ≡ noCell) (freed (layout s) (s .spaces) gone f) noCell (cellAt (s .cells) f) (λ _. refl) (λ n. ok .cells .free f (λ u b l h. stays f out n u b l h (true-or-false (gone u))));
+  }
+    where
+      stays : (f : ℕ) → Free (layout (withdrawn gone closed s)) (withdrawn gone closed s .spaces) f → freed (layout s) (s .spaces) gone f ≡ false
+          → (u : ℕ) → u < slotCount → Live (s .spaces) u → HasFrame (layout s) (s .spaces) u f → (gone u ≡ true) ⊎ (gone u ≡ false) → ⊥
+      stays f out n u b l h (inl e) = true-false (d-freed (layout s) (s .spaces) gone f .of (u, b, (e, h))) n
+      stays f out n u b l (p, h, e) (inr k) =
+          let same = withdrawn-kept s gone closed u k in
+          out u b (rw same l) (p, rw same h, withdrawn-frame s gone closed u p k ∙ e)
+
 pub sound-withdrawn : (s : State) (gone closed : ℕ → Bool) → Sound s → ((u : ℕ) → gone u ≡ true → closed u ≡ true)
     → ((u : ℕ) → gone u ≡ true → Live (s .spaces) u → spaceAt (s .spaces) u .name ≢ baseName) → Sound (withdrawn gone closed s)
 unfolding withdrawn
@@ -229,4 +267,5 @@ sound-withdrawn s gone closed ok within no-base = record {
   guests = sound-guests s gone closed ok within no-base;
   permits = sound-permits s gone closed ok within no-base;
   entries = sound-entries s gone closed ok within no-base;
+  cells = sound-cells s gone closed ok within no-base;
 }

@@ -1,7 +1,7 @@
 -- Paper 01, "Answer numbers". A promise fixes the whole answer, and with it the paper's `number` and `value`.
 use Prim.Native.Nat.{ℕ}
 use Rattle.model.specs.declared.Answer.{Answer}
-use Rattle.model.specs.declared.Answer.the-variants.{Done, Unsound, BadCaller, Limit, NameTaken, NoSpace, NotOwner, NoSharing, AllowanceUsed, SlotsUsed, NoRun, NoIdentification, NotPermitted, ListFull, AletSpecification, AlenTranslation, AddressingCapability, Addressing, Protection, SpecialOperation, PrimarySpace, LineNotRead}
+use Rattle.model.specs.declared.Answer.the-variants.{Done, Unsound, BadCaller, Limit, NameTaken, NoSpace, NotOwner, NoSharing, AllowanceUsed, SlotsUsed, NoRun, NoIdentification, NotPermitted, ListFull, AletSpecification, AlenTranslation, AddressingCapability, Addressing, Protection, SpecialOperation, PrimarySpace, LineNotRead, KeyProtection}
 
 -- the column "No."
 unfoldable pub number : Answer → ℕ
@@ -27,6 +27,8 @@ number Protection = 18
 number SpecialOperation = 19
 number PrimarySpace = 20
 number LineNotRead = 21
+-- paper 02, M-100: "22, key protection"
+number KeyProtection = 22
 
 -- "Every refusal .. carries the value 0 unless its rule names another."
 unfoldable pub value : Answer → ℕ
@@ -52,3 +54,4 @@ value Protection = 0
 value SpecialOperation = 0
 value PrimarySpace = 0
 value LineNotRead = 0
+value KeyProtection = 0

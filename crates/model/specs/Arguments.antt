@@ -9,14 +9,14 @@ use Rattle.model.specs.declared.Answer.the-variants.{Limit}
 use Rattle.model.specs.declared.Caller.{Caller}
 use Rattle.model.specs.declared.Guest.{Guest}
 use Rattle.model.specs.declared.Kind.{Kind}
-use Rattle.model.specs.declared.Kind.the-variants.{Pages, Allowance, ListSize, Flag, Name, Register, Length, OtherGuest}
+use Rattle.model.specs.declared.Kind.the-variants.{Pages, Allowance, ListSize, Flag, Name, Register, Length, OtherGuest, Key as AnyKey}
 use Rattle.model.specs.declared.Operation.{Operation}
-use Rattle.model.specs.declared.Operation.the-variants.{Enrol, Create, Destroy, Permit, Isolate, Query, Add, Remove, Load, Mode, Fetch, Store, Reset}
+use Rattle.model.specs.declared.Operation.the-variants.{Enrol, Create, Destroy, Permit, Isolate, Query, Add, Remove, Load, Mode, Fetch, Store, Reset, Key, Block}
 use Rattle.model.specs.declared.Settings.{Settings}
 use Rattle.model.specs.Decision.{Decision, check}
 use Rattle.model.specs.Names.{goodName}
 use Rattle.model.specs.Searches.{enrolled}
-use Rattle.model.specs.Sizes.{guestCount, maxPages, maxAllowance, maxList, maxTransfer}
+use Rattle.model.specs.Sizes.{guestCount, maxPages, maxAllowance, maxList, maxTransfer, maxKey}
 
 pub record Argument : Type 0 where
   pub fits : Bool
@@ -30,9 +30,13 @@ argument b k p = record { fits = b; kind = k; place = p }
 abbrev pub goodPages : ℕ → Bool
 goodPages n = both (leb 1 n) (leb n maxPages)
 
--- "share 0/1", "ASF 0/1", "MODE 0 primary, 1 access-register"
+-- "share 0/1", "ASF 0/1", "MODE 0 primary, 1 access-register"; paper 02, M-100: "mark (0 or 1)"
 abbrev pub goodFlag : ℕ → Bool
 goodFlag n = leb n 1
+
+-- paper 02, M-100: "all keys are 0 to 15"
+abbrev pub goodKey : ℕ → Bool
+goodKey n = leb n maxKey
 
 -- "LOAD register 0-15"
 abbrev pub goodRegister : ℕ → Bool
@@ -71,6 +75,8 @@ arguments gs c (Mode mode) n = argument (goodFlag mode) Flag 2 ∷ []
 arguments gs c (Fetch register address) n = argument (goodRegister register) Register 2 ∷ argument (goodLength n) Length 4 ∷ []
 arguments gs c (Store register address) n = argument (goodRegister register) Register 2 ∷ argument (goodLength n) Length 4 ∷ []
 arguments gs c Reset n = []
+arguments gs c (Key key) n = argument (goodKey key) AnyKey 2 ∷ []
+arguments gs c (Block id address key mark) n = argument (goodKey key) AnyKey 4 ∷ argument (goodFlag mark) Flag 5 ∷ []
 
 -- the leftmost argument outside its limits refuses
 unfoldable pub checkAll : List Argument → Decision → Decision

@@ -1,17 +1,17 @@
 -- Paper 01, "The calls, each with its order of checks": each call as a decision on tables and lengths, its checks one chain
 -- in the paper's order. Check 3, where a call has it, follows check 2 and stands in Arguments.
-use Prim.Native.Nat.{ℕ, _+_, _*_}
+use Prim.Native.Nat.{ℕ, _+_, _*_, _/_}
 use mathlib.Core.Bool.{Bool, true, false, not}
 use lib.Dec.{leb, ltb, eqb}
 use Rattle.lists.specs.Choice.{choose, both, either, implies}
-use Rattle.model.specs.declared.Answer.the-variants.{Unsound, BadCaller, NameTaken, NoSpace, NotOwner, NoSharing, AllowanceUsed, SlotsUsed, NoRun, NoIdentification, NotPermitted, ListFull, AletSpecification, AlenTranslation, Addressing, Protection, SpecialOperation, PrimarySpace}
+use Rattle.model.specs.declared.Answer.the-variants.{Unsound, BadCaller, NameTaken, NoSpace, NotOwner, NoSharing, AllowanceUsed, SlotsUsed, NoRun, NoIdentification, NotPermitted, ListFull, AletSpecification, AlenTranslation, Addressing, Protection, SpecialOperation, PrimarySpace, KeyProtection}
 use Rattle.model.specs.declared.Call.{Call}
 use Rattle.model.specs.declared.Caller.{Caller}
 use Rattle.model.specs.declared.Change.{Change}
-use Rattle.model.specs.declared.Change.the-variants.{Keep, SetPermit, SetEntry, SetRegister, SetMode, AddSpace, AddGuest, DestroySpace, IsolateSpace, ResetGuest}
+use Rattle.model.specs.declared.Change.the-variants.{Keep, SetPermit, SetEntry, SetRegister, SetMode, AddSpace, AddGuest, DestroySpace, IsolateSpace, ResetGuest, SetKey, SetCell}
 use Rattle.model.specs.declared.Guest.{Guest}
 use Rattle.model.specs.declared.Operation.{Operation}
-use Rattle.model.specs.declared.Operation.the-variants.{Enrol, Create, Destroy, Permit, Isolate, Query, Add, Remove, Load, Mode, Fetch, Store, Reset}
+use Rattle.model.specs.declared.Operation.the-variants.{Enrol, Create, Destroy, Permit, Isolate, Query, Add, Remove, Load, Mode, Fetch, Store, Reset, Key, Block}
 use Rattle.model.specs.declared.Right.{Right}
 use Rattle.model.specs.declared.Right.the-variants.{Read, Write}
 use Rattle.model.specs.declared.Settings.{Settings}
@@ -24,7 +24,8 @@ use Rattle.model.specs.Arguments.{arguments, checkAll}
 use Rattle.model.specs.Classes.{classOf}
 use Rattle.model.specs.Changes.{allows, raised, released, applied}
 use Rattle.model.specs.Decision.{Decision, Effect, none, clear, fetch, store, refuse, accept, done, check}
-use Rattle.model.specs.Frames.{framesOf, sizeOf}
+use Rattle.model.specs.Frames.{layout, frameOf, framesOf, sizeOf}
+use Rattle.model.specs.Keys.{keyPermits}
 use Rattle.model.specs.Names.{baseName}
 use Rattle.model.specs.Searches.{enrolled, slotOf, slotNamed, dataSpaces, freeSlot, freeRun, freeEntry}
 use Rattle.model.specs.Sizes.{guestCount, slotCount, frameSize, spentIdentification}
@@ -135,35 +136,53 @@ mode s c m =
     (done (SetMode (cpuPlace c) (eqb m 1)))
 
 -- "FETCH and STORE register, address: 3 (register or length), 14, 15, 16, 17, 18. Bytes of the fetch go to the buffer; a
--- store replaces only the bytes named." The address and length are added as numbers without a width.
+-- store replaces only the bytes named." The address and length are added as numbers without a width. Paper 02, M-100: "22, key
+-- protection, in FETCH and STORE after 18".
 unfoldable pub writes : Right → Bool
 writes Read = false
 writes Write = true
 
--- what follows translation: the checks 17 and 18, where `storing` tells a store from a fetch
-unfoldable pub accessAt : State → (address buffer : ℕ) → (storing : Bool) → Effect → (slot : ℕ) → Right → Decision
-accessAt s a n storing f u r =
+-- what follows translation: the checks 17, 18 and 22, where `storing` tells a store from a fetch and `key` is the access key
+unfoldable pub accessAt : State → (key address buffer : ℕ) → (storing : Bool) → Effect → (slot : ℕ) → Right → Decision
+accessAt s key a n storing f u r =
     check (leb (a + n) (sizeOf (s .spaces) u)) Addressing
-    (check (implies storing (writes r)) Protection (accept 0 Keep f))
+    (check (implies storing (writes r)) Protection
+    (check (keyPermits s storing key u a n) KeyProtection (accept 0 Keep f)))
 
-unfoldable pub access : State → (address buffer : ℕ) → (storing : Bool) → ((slot : ℕ) → Effect) → Translation → Decision
-access s a n storing f (Reached u r) = accessAt s a n storing (f u) u r
-access s a n storing f (Refused x) = refuse x
+unfoldable pub access : State → (key address buffer : ℕ) → (storing : Bool) → ((slot : ℕ) → Effect) → Translation → Decision
+access s key a n storing f (Reached u r) = accessAt s key a n storing (f u) u r
+access s key a n storing f (Refused x) = refuse x
 
 -- the token that a caller uses through a register, translated
 unfoldable pub target : State → Caller → (register : ℕ) → Translation
 target s c r = translate s (c .guest) (tokenUsed (cpuAt (s .cpus) (cpuPlace c)) r)
 
+-- the access key of a caller
+abbrev pub accessKey : State → Caller → ℕ
+accessKey s c = cpuAt (s .cpus) (cpuPlace c) .key
+
 unfoldable pub fetching : State → Caller → (register address buffer : ℕ) → Decision
-fetching s c r a n = access s a n false (λ u. fetch u a) (target s c r)
+fetching s c r a n = access s (accessKey s c) a n false (λ u. fetch u a) (target s c r)
 
 unfoldable pub storing : State → Caller → (register address buffer : ℕ) → Decision
-storing s c r a n = access s a n true (λ u. store u a) (target s c r)
+storing s c r a n = access s (accessKey s c) a n true (λ u. store u a) (target s c r)
 
 -- "RESET: all the caller's entries become unused, its data spaces are destroyed, its primary is isolated." No check follows
 -- check 2.
 unfoldable pub reset : (guest : ℕ) → Decision
 reset g = done (ResetGuest g)
+
+-- Paper 02, M-100: "A guest's KEY call sets its access key".
+unfoldable pub setKey : Caller → (key : ℕ) → Decision
+setKey c k = done (SetKey (cpuPlace c) k)
+
+-- "BLOCK takes a space the caller owns, address in it, key, mark (0 or 1); an address past the end gives 17."
+unfoldable pub block : State → (guest id address key mark : ℕ) → Decision
+block s g i a k m =
+    let u = slotOf (s .spaces) i in
+    owning s g u
+    (check (ltb a (sizeOf (s .spaces) u)) Addressing
+    (done (SetCell (frameOf (layout s) u (a / frameSize)) (record { key = k; mark = eqb m 1 }))))
 
 -- Any call, after the checks 1, 2 and 3.
 unfoldable pub perform : State → Caller → Operation → (buffer : ℕ) → Decision
@@ -180,6 +199,8 @@ perform s c (Mode m) n = mode s c m
 perform s c (Fetch register address) n = fetching s c register address n
 perform s c (Store register address) n = storing s c register address n
 perform s c Reset n = reset (c .guest)
+perform s c (Key key) n = setKey c key
+perform s c (Block id address key mark) n = block s (c .guest) id address key mark
 
 -- Check 2: "caller not 1 to 8 or not enrolled; for ENROL, not 1 to 8 or already enrolled"
 unfoldable pub enrols : Operation → Bool

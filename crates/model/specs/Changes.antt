@@ -6,9 +6,10 @@ use mathlib.Core.List.{List}
 use lib.ListN.{set}
 use lib.Dec.{eqb}
 use Rattle.lists.specs.Choice.{choose, both, either}
-use Rattle.lists.specs.Places.{mapPlaces}
+use Rattle.lists.specs.Places.{some, mapPlaces}
+use Rattle.model.specs.declared.Cell.{Cell}
 use Rattle.model.specs.declared.Change.{Change}
-use Rattle.model.specs.declared.Change.the-variants.{Keep, SetPermit, SetEntry, SetRegister, SetMode, AddSpace, AddGuest, DestroySpace, IsolateSpace, ResetGuest}
+use Rattle.model.specs.declared.Change.the-variants.{Keep, SetPermit, SetEntry, SetRegister, SetMode, AddSpace, AddGuest, DestroySpace, IsolateSpace, ResetGuest, SetKey, SetCell}
 use Rattle.model.specs.declared.Entry.{Entry}
 use Rattle.model.specs.declared.Grant.{Grant}
 use Rattle.model.specs.declared.Grant.the-variants.{Nothing, Reading, Writing}
@@ -19,8 +20,10 @@ use Rattle.model.specs.declared.Space.{Space}
 use Rattle.model.specs.declared.Standing.{Standing}
 use Rattle.model.specs.declared.Standing.the-variants.{Unused, Valid, Revoked}
 use Rattle.model.specs.declared.State.{State}
+use Rattle.model.specs.Frames.{Layout, layout, hasFrame}
 use Rattle.model.specs.Searches.{isOwned, isData}
-use Rattle.model.specs.Tables.{noSpace, noPermit, spaceAt, cpuAt, withNext, withSpaces, withGuests, withCpus, withPermits, withEntries}
+use Rattle.model.specs.Sizes.{slotCount}
+use Rattle.model.specs.Tables.{noSpace, noPermit, noCell, spaceAt, cpuAt, withNext, withSpaces, withGuests, withCpus, withPermits, withEntries, withCells, withRegisters, withMode, withKey}
 
 -- Rights.
 -- "write includes read"
@@ -76,6 +79,14 @@ vacated gone ss = mapPlaces (λ u x. choose (gone u) noSpace x) ss
 unfoldable pub unpermitted : (closed : ℕ → Bool) → List Permit → List Permit
 unpermitted closed ps = mapPlaces (λ k p. choose (closed (permitSlot k)) noPermit p) ps
 
+-- the frame f is one of a space that goes
+unfoldable pub freed : Layout → List Space → (gone : ℕ → Bool) → (frame : ℕ) → Bool
+freed l ss gone f = some (λ u. both (gone u) (hasFrame l ss u f)) slotCount
+
+-- paper 02, M-100: "free frames of a sound state, have key 0, mark off"
+unfoldable pub blanked : (freed : ℕ → Bool) → List Cell → List Cell
+blanked freed cs = mapPlaces (λ f c. choose (freed f) noCell c) cs
+
 -- whether guest h's valid entry for slot u is revoked: every guest's for a destroyed space, and for a closed one
 -- every guest's but the owner's
 unfoldable pub loses : List Space → (gone closed : ℕ → Bool) → (guest slot : ℕ) → Bool
@@ -86,9 +97,11 @@ revokedAll t es = mapPlaces (λ k e. revoked (t (listOwner k)) e) es
 
 unfoldable pub withdrawn : (gone closed : ℕ → Bool) → State → State
 withdrawn gone closed s =
-    withEntries
+    withCells
+    (withEntries
     (withPermits (withSpaces s (vacated gone (s .spaces))) (unpermitted closed (s .permits)))
-    (revokedAll (loses (s .spaces) gone closed) (s .entries))
+    (revokedAll (loses (s .spaces) gone closed) (s .entries)))
+    (blanked (freed (layout s) (s .spaces) gone) (s .cells))
 
 -- "RESET: all the caller's entries become unused, its data spaces are destroyed, its primary is isolated. Primary bytes,
 -- registers and mode stay"
@@ -106,10 +119,12 @@ abbrev pub applied : State → Change → State
 applied s Keep = s
 applied s (SetPermit k p) = withPermits s (set (s .permits) k p)
 applied s (SetEntry k e) = withEntries s (set (s .entries) k e)
-applied s (SetRegister k r v) = withCpus s (set (s .cpus) k (record { registers = set (cpuAt (s .cpus) k .registers) r v; mode = cpuAt (s .cpus) k .mode }))
-applied s (SetMode k m) = withCpus s (set (s .cpus) k (record { registers = cpuAt (s .cpus) k .registers; mode = m }))
+applied s (SetRegister k r v) = withCpus s (set (s .cpus) k (withRegisters (cpuAt (s .cpus) k) (set (cpuAt (s .cpus) k .registers) r v)))
+applied s (SetMode k m) = withCpus s (set (s .cpus) k (withMode (cpuAt (s .cpus) k) m))
 applied s (AddSpace u x) = spaceAdded s u x
 applied s (AddGuest u x k y) = spaceAdded (withGuests s (set (s .guests) k y)) u x
 applied s (DestroySpace u) = withdrawn (eqb u) (eqb u) s
 applied s (IsolateSpace u) = withdrawn (λ v. false) (eqb u) s
 applied s (ResetGuest g) = resetTables s g
+applied s (SetKey k x) = withCpus s (set (s .cpus) k (withKey (cpuAt (s .cpus) k) x))
+applied s (SetCell f c) = withCells s (set (s .cells) f c)

@@ -3,7 +3,7 @@
 use Prim.Native.Nat.{ℕ}
 use mathlib.Core.Bool.{Bool, true, false}
 use Rattle.model.specs.declared.Operation.{Operation}
-use Rattle.model.specs.declared.Operation.the-variants.{Enrol, Create, Destroy, Permit, Isolate, Query, Add, Remove, Load, Mode, Fetch, Store, Reset}
+use Rattle.model.specs.declared.Operation.the-variants.{Enrol, Create, Destroy, Permit, Isolate, Query, Add, Remove, Load, Mode, Fetch, Store, Reset, Key, Block}
 
 -- none; those of a fetch, from a space to the buffer; those of a store, from the buffer to a space
 pub data Moves : Type 0 where
@@ -39,6 +39,8 @@ classOf (Mode mode) = class false noBytes noValue
 classOf (Fetch register address) = class false (fromSpace register address) itsBytes
 classOf (Store register address) = class false (toSpace register address) noValue
 classOf Reset = class false noBytes noValue
+classOf (Key key) = class false noBytes noValue
+classOf (Block id address key mark) = class false noBytes noValue
 
 -- whether bytes go to a space
 abbrev pub storesBytes : Moves → Bool

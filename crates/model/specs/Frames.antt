@@ -5,7 +5,7 @@ use mathlib.Core.List.{List}
 use lib.Dec.{eqb}
 use Rattle.lists.specs.Bytes.{get}
 use Rattle.lists.specs.Choice.{implies}
-use Rattle.lists.specs.Places.{every, placesFrom}
+use Rattle.lists.specs.Places.{every, some, placesFrom}
 use Rattle.model.specs.declared.Space.{Space}
 use Rattle.model.specs.declared.State.{State}
 use Rattle.model.specs.Sizes.{frameSize, slotCount}
@@ -37,7 +37,10 @@ bytesOf s u m = get (placeOf (layout s) u) 0 (sizeOf (s .spaces) u) m
 unfoldable pub framesOf : State → (slot : ℕ) → List ℕ
 framesOf s u = placesFrom (frameOf (layout s) u) 0 (spaceAt (s .spaces) u .pages)
 
+-- the space in slot u has the frame f
+unfoldable pub hasFrame : Layout → List Space → (slot frame : ℕ) → Bool
+hasFrame l ss u f = some (λ p. eqb (frameOf l u p) f) (spaceAt ss u .pages)
+
 -- no live space has the frame f
 unfoldable pub frameFree : Layout → List Space → (frame : ℕ) → Bool
-frameFree l ss f =
-    every (λ u. implies (live (spaceAt ss u)) (every (λ p. not (eqb (frameOf l u p) f)) (spaceAt ss u .pages))) slotCount
+frameFree l ss f = every (λ u. implies (live (spaceAt ss u)) (not (hasFrame l ss u f))) slotCount

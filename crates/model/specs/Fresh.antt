@@ -10,7 +10,7 @@ use Rattle.model.specs.declared.Kind.the-variants.{Frames}
 use Rattle.model.specs.declared.Reply.{Reply}
 use Rattle.model.specs.declared.State.{State}
 use Rattle.model.specs.Sizes.{maxFrames}
-use Rattle.model.specs.Tables.{noSpace, noGuest, zeroCpu, noPermit, unusedEntry}
+use Rattle.model.specs.Tables.{noSpace, noGuest, zeroCpu, noPermit, unusedEntry, noCell}
 
 -- nobody enrolled; "the fresh table holds room for all 240 entries, unused"
 abbrev pub emptyTables : (frames next : ℕ) → State
@@ -22,6 +22,7 @@ emptyTables f n = record {
   cpus = replicate 8 zeroCpu;
   permits = replicate 256 noPermit;
   entries = replicate 240 unusedEntry;
+  cells = replicate maxFrames noCell;
 }
 
 unfoldable pub framesInRange : ℕ → Bool

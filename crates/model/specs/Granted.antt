@@ -1,6 +1,6 @@
 -- What answer 0 implies, call by call: the checks that were passed, and what was then decided. The laws of the calls and
 -- the claims about whole lists lean on these alone.
-use Prim.Native.Nat.{ℕ, _+_, _≤_, _<_}
+use Prim.Native.Nat.{ℕ, _+_, _/_, _≤_, _<_}
 use mathlib.Core.Bool.{Bool, true, false}
 use mathlib.Core.List.{List, [], _∷_}
 use mathlib.Core.Logic.{_≢_}
@@ -9,22 +9,23 @@ use lib.Dec.{eqb}
 use Rattle.model.specs.declared.Call.{Call}
 use Rattle.model.specs.declared.Caller.{Caller}
 use Rattle.model.specs.declared.Change.{Change}
-use Rattle.model.specs.declared.Change.the-variants.{Keep, SetPermit, SetEntry, SetRegister, SetMode, DestroySpace, IsolateSpace, ResetGuest}
+use Rattle.model.specs.declared.Change.the-variants.{Keep, SetPermit, SetEntry, SetRegister, SetMode, DestroySpace, IsolateSpace, ResetGuest, SetKey, SetCell}
 use Rattle.model.specs.declared.Operation.{Operation}
-use Rattle.model.specs.declared.Operation.the-variants.{Enrol, Create, Destroy, Permit, Isolate, Query, Add, Remove, Load, Mode, Fetch, Store, Reset}
+use Rattle.model.specs.declared.Operation.the-variants.{Enrol, Create, Destroy, Permit, Isolate, Query, Add, Remove, Load, Mode, Fetch, Store, Reset, Key, Block}
 use Rattle.model.specs.declared.Right.{Right}
 use Rattle.model.specs.declared.Right.the-variants.{Read}
 use Rattle.model.specs.declared.Standing.the-variants.{Valid}
 use Rattle.model.specs.declared.State.{State}
 use Rattle.model.specs.declared.Translation.the-variants.{Reached}
 use Rattle.model.specs.Arguments.{Argument, arguments}
-use Rattle.model.specs.Calls.{enrolling, creating, entitled, writes, target, goodCaller, ready}
+use Rattle.model.specs.Calls.{enrolling, creating, entitled, writes, target, accessKey, goodCaller, ready}
 use Rattle.model.specs.Changes.{raised, released, applied}
 use Rattle.model.specs.Decision.{Decision, Effect, none, clear, fetch, store, accept, done}
-use Rattle.model.specs.Frames.{framesOf, sizeOf}
+use Rattle.model.specs.Frames.{layout, frameOf, framesOf, sizeOf}
+use Rattle.model.specs.Keys.{keyPermits}
 use Rattle.model.specs.Names.{baseName}
 use Rattle.model.specs.Searches.{slotOf, slotNamed, dataSpaces, freeSlot, freeRun, freeEntry}
-use Rattle.model.specs.Sizes.{slotCount, spentIdentification}
+use Rattle.model.specs.Sizes.{slotCount, frameSize, spentIdentification}
 use Rattle.model.specs.Tables.{spaceAt, guestAt, cpuPlace, grantAt, permitPlace, entryAt, entryPlace}
 use Rattle.model.specs.Tokens.{token, entryNumber, malformed, assigned}
 
@@ -94,10 +95,19 @@ pub record Accessed (s : State) (c : Caller) (r a n : ℕ) (storing : Bool) (f :
   pub reached : target s c r ≡ Reached slot right
   pub inside : a + n ≤ sizeOf (s .spaces) slot
   pub writable : storing ≡ true → writes right ≡ true
+  pub key : keyPermits s storing (accessKey s c) slot a n ≡ true
   pub is : d ≡ accept 0 Keep (f slot)
 
 pub record ResetDone (g : ℕ) (d : Decision) : Type 0 where
   pub is : d ≡ done (ResetGuest g)
+
+pub record KeySet (c : Caller) (k : ℕ) (d : Decision) : Type 0 where
+  pub is : d ≡ done (SetKey (cpuPlace c) k)
+
+pub record Blocked (s : State) (g i a k m : ℕ) (d : Decision) : Type 0 where
+  pub owning : Owning s g (slotOf (s .spaces) i)
+  pub inside : a < sizeOf (s .spaces) (slotOf (s .spaces) i)
+  pub is : d ≡ done (SetCell (frameOf (layout s) (slotOf (s .spaces) i) (a / frameSize)) (record { key = k; mark = eqb m 1 }))
 
 unfoldable pub Performed : State → Caller → Operation → (buffer : ℕ) → Decision → Type 0
 Performed s c (Enrol x) n d = Made s (x .pages) (enrolling s (c .guest) x) d
@@ -113,6 +123,8 @@ Performed s c (Mode m) n d = ModeSet s c m d
 Performed s c (Fetch register address) n d = Accessed s c register address n false (λ u. fetch u address) d
 Performed s c (Store register address) n d = Accessed s c register address n true (λ u. store u address) d
 Performed s c Reset n d = ResetDone (c .guest) d
+Performed s c (Key key) n d = KeySet c key d
+Performed s c (Block id address key mark) n d = Blocked s (c .guest) id address key mark d
 
 -- every argument is inside its limits
 unfoldable pub AllFit : List Argument → Type 0

@@ -16,6 +16,7 @@ pub mod Changes
 pub mod Decision
 pub mod Classes
 pub mod Arguments
+pub mod Keys
 pub mod Calls
 pub mod Granted
 pub mod Verdict

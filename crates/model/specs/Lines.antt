@@ -10,7 +10,7 @@ use lib.Dec.{leb, eqb}
 use Rattle.lists.specs.Choice.{choose, both, either}
 use Rattle.lists.specs.Text.{byte, bytes}
 use Rattle.model.specs.declared.Operation.{Operation}
-use Rattle.model.specs.declared.Operation.the-variants.{Enrol, Create, Destroy, Permit, Isolate, Query, Add, Remove, Load, Mode, Fetch, Store, Reset}
+use Rattle.model.specs.declared.Operation.the-variants.{Enrol, Create, Destroy, Permit, Isolate, Query, Add, Remove, Load, Mode, Fetch, Store, Reset, Key, Block}
 use Rattle.model.specs.declared.Request.{Request}
 use Rattle.model.specs.declared.Request.the-variants.{Frames, Call, NotRead}
 use Rattle.model.specs.declared.Right.{Right}
@@ -159,6 +159,8 @@ forms =
     ∷ form "FETCH" (number ∷ number ∷ number ∷ number ∷ []) (λ v. call v (Fetch (at v 1) (at v 2)) (at v 3))
     ∷ form "STORE" (number ∷ number ∷ number ∷ hex ∷ []) (λ v. call v (Store (at v 1) (at v 2)) (at v 3))
     ∷ form "RESET" (number ∷ []) (λ v. call v Reset 0)
+    ∷ form "KEY" (number ∷ number ∷ []) (λ v. call v (Key (at v 1)) 0)
+    ∷ form "BLOCK" (number ∷ number ∷ number ∷ number ∷ number ∷ []) (λ v. call v (Block (at v 1) (at v 2) (at v 3) (at v 4)) 0)
     ∷ []
 
 unfoldable pub sameBytes : List ℕ → List ℕ → Bool

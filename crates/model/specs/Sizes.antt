@@ -40,3 +40,7 @@ maxTransfer = 256
 -- "the next identification, 1 to 65,535, never given twice": when it is 65,536, all have been given
 abbrev pub spentIdentification : ℕ
 spentIdentification = 65536
+
+-- Paper 02, M-100: "all keys are 0 to 15"
+abbrev pub maxKey : ℕ
+maxKey = 15

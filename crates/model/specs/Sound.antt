@@ -7,6 +7,7 @@ use mathlib.Core.Logic.{_≢_, _⊎_}
 use mathlib.Core.List.{List}
 use mathlib.Core.Path.{_≡_}
 use lib.ListN.{length}
+use Rattle.model.specs.declared.Cell.{Cell}
 use Rattle.model.specs.declared.Cpu.{Cpu}
 use Rattle.model.specs.declared.Entry.{Entry}
 use Rattle.model.specs.declared.Guest.{Guest}
@@ -20,8 +21,8 @@ use Rattle.model.specs.Changes.{allows}
 use Rattle.model.specs.Frames.{Layout, layout, frameOf}
 use Rattle.model.specs.Names.{goodName}
 use Rattle.model.specs.Searches.{enrolled, primaries, dataSpaces}
-use Rattle.model.specs.Sizes.{maxFrames, spentIdentification, maxAllowance, maxList, guestCount, slotCount, registerCount}
-use Rattle.model.specs.Tables.{noSpace, noGuest, zeroCpu, unusedEntry, spaceAt, guestAt, guestPlace, cpuAt, grantAt, entryAt}
+use Rattle.model.specs.Sizes.{maxFrames, spentIdentification, maxAllowance, maxList, guestCount, slotCount, registerCount, maxKey}
+use Rattle.model.specs.Tables.{noSpace, noGuest, zeroCpu, unusedEntry, noCell, spaceAt, guestAt, guestPlace, cpuAt, grantAt, entryAt, cellAt}
 
 -- the slot u holds a live space
 abbrev pub Live : List Space → (slot : ℕ) → Type 0
@@ -59,7 +60,7 @@ pub record SpacesOk (frames next : ℕ) (gs : List Guest) (ss : List Space) (l :
 
 -- "Each enrolled guest has exactly one primary, named BASE, at most its allowance of data spaces, settings in range, and
 -- access-register mode only with ASF." "everything of guests not enrolled, hold zeros, .. primary mode. Register values of
--- enrolled guests are free."
+-- enrolled guests are free." Paper 02, M-100: "all keys are 0 to 15", access keys too.
 pub record GuestsOk (ss : List Space) (gs : List Guest) (cs : List Cpu) : Type 0 where
   pub len : length gs ≡ guestCount
   pub cpus : length cs ≡ guestCount
@@ -70,6 +71,7 @@ pub record GuestsOk (ss : List Space) (gs : List Guest) (cs : List Cpu) : Type 0
   pub list-low : (g : ℕ) → enrolled gs g ≡ true → 1 ≤ guestAt gs g .list
   pub list-high : (g : ℕ) → enrolled gs g ≡ true → guestAt gs g .list ≤ maxList
   pub mode : (g : ℕ) → enrolled gs g ≡ true → cpuAt cs (guestPlace g) .mode ≡ true → guestAt gs g .asf ≡ true
+  pub key : (g : ℕ) → enrolled gs g ≡ true → cpuAt cs (guestPlace g) .key ≤ maxKey
   pub absent : (g : ℕ) → IsGuest g → guestAt gs g .enrolled ≡ false → guestAt gs g ≡ noGuest
   pub idle : (g : ℕ) → IsGuest g → guestAt gs g .enrolled ≡ false → cpuAt cs (guestPlace g) ≡ zeroCpu
 
@@ -98,9 +100,25 @@ pub record EntriesOk (gs : List Guest) (ss : List Space) (ps : List Permit) (es 
   pub ground : (g n u : ℕ) (r : Right) → IsGuest g → IsEntry n → entryAt es g n .standing ≡ Valid u r → EntryGround ss ps g u r
   pub above : (g n : ℕ) → IsGuest g → IsEntry n → guestAt gs g .list + 1 < n → entryAt es g n ≡ unusedEntry
 
+-- the frame f is that of a page of the space in slot u
+abbrev pub HasFrame : Layout → List Space → (slot frame : ℕ) → Type 0
+HasFrame l ss u f = (p : ℕ) × (p < spaceAt ss u .pages) × (frameOf l u p ≡ f)
+
+-- no live space has the frame f, as none has a frame past F
+abbrev pub Free : Layout → List Space → (frame : ℕ) → Type 0
+Free l ss f = (u : ℕ) → u < slotCount → Live ss u → HasFrame l ss u f → ⊥
+
+-- Paper 02, M-100: "New spaces, and free frames of a sound state, have key 0, mark off; all keys are 0 to 15." Frames are spoken
+-- of one by one.
+pub record CellsOk (ss : List Space) (l : Layout) (cs : List Cell) : Type 0 where
+  pub len : length cs ≡ maxFrames
+  pub key : (f : ℕ) → cellAt cs f .key ≤ maxKey
+  pub free : (f : ℕ) → Free l ss f → cellAt cs f ≡ noCell
+
 pub record Sound (s : State) : Type 0 where
   pub head : HeadOk (s .frames) (s .next)
   pub spaces : SpacesOk (s .frames) (s .next) (s .guests) (s .spaces) (layout s)
   pub guests : GuestsOk (s .spaces) (s .guests) (s .cpus)
   pub permits : PermitsOk (s .guests) (s .spaces) (s .permits)
   pub entries : EntriesOk (s .guests) (s .spaces) (s .permits) (s .entries)
+  pub cells : CellsOk (s .spaces) (layout s) (s .cells)

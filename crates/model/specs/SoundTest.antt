@@ -6,6 +6,7 @@ use lib.ListN.{length, getD}
 use lib.Dec.{leb, ltb, eqb}
 use Rattle.lists.specs.Choice.{choose, both, either, implies}
 use Rattle.lists.specs.Places.{every}
+use Rattle.model.specs.declared.Cell.{Cell}
 use Rattle.model.specs.declared.Cpu.{Cpu}
 use Rattle.model.specs.declared.Entry.{Entry}
 use Rattle.model.specs.declared.Guest.{Guest}
@@ -17,11 +18,12 @@ use Rattle.model.specs.declared.Standing.{Standing}
 use Rattle.model.specs.declared.Standing.the-variants.{Unused, Valid, Revoked}
 use Rattle.model.specs.declared.State.{State}
 use Rattle.model.specs.Changes.{allows}
+use Rattle.model.specs.Frames.{Layout, layout, frameFree}
 use Rattle.model.specs.Fresh.{framesInRange}
 use Rattle.model.specs.Names.{goodName}
 use Rattle.model.specs.Searches.{enrolled, isUnused, primaries, dataSpaces}
-use Rattle.model.specs.Sizes.{spentIdentification, maxAllowance, maxList, guestCount, slotCount, registerCount}
-use Rattle.model.specs.Tables.{spaceAt, live, guestAt, cpuAt, grantAt, entryAt}
+use Rattle.model.specs.Sizes.{maxFrames, spentIdentification, maxAllowance, maxList, guestCount, slotCount, registerCount, maxKey}
+use Rattle.model.specs.Tables.{spaceAt, live, guestAt, cpuAt, grantAt, entryAt, cellAt}
 
 -- "F in range; next identification 1 to 65,536."
 unfoldable pub headTest : (frames next : ℕ) → Bool
@@ -64,14 +66,15 @@ spacesTest f n gs ss =
     (both (every (λ u. slotTest f n gs (spaceAt ss u)) slotCount) (apartTest ss))
 
 -- "Each enrolled guest has exactly one primary, named BASE, at most its allowance of data spaces, settings in range, and
--- access-register mode only with ASF."
+-- access-register mode only with ASF." Paper 02, M-100: "all keys are 0 to 15"
 unfoldable pub enrolledTest : Guest → Cpu → (primaries dataSpaces : ℕ) → Bool
 enrolledTest x c p d =
     both (eqb p 1)
     (both (leb d (x .allowance))
     (both (leb (x .allowance) maxAllowance)
     (both (leb 1 (x .list))
-    (both (leb (x .list) maxList) (implies (c .mode) (x .asf))))))
+    (both (leb (x .list) maxList)
+    (both (leb (c .key) maxKey) (implies (c .mode) (x .asf)))))))
 
 -- "everything of guests not enrolled, hold zeros, .. primary mode"
 unfoldable pub absentTest : Guest → Cpu → Bool
@@ -80,7 +83,8 @@ absentTest x c =
     (both (not (x .share))
     (both (eqb (x .list) 0)
     (both (not (x .asf))
-    (both (not (c .mode)) (every (λ r. eqb (getD (c .registers) r 0) 0) registerCount)))))
+    (both (not (c .mode))
+    (both (eqb (c .key) 0) (every (λ r. eqb (getD (c .registers) r 0) 0) registerCount))))))
 
 -- the guest at place k
 unfoldable pub guestTest : List Space → List Guest → List Cpu → (place : ℕ) → Bool
@@ -132,9 +136,20 @@ unfoldable pub entriesTest : List Guest → List Space → List Permit → List 
 entriesTest gs ss ps es =
     both (eqb (length es) 240) (every (λ k. every (λ i. entryTest gs ss ps es (k + 1) (i + 2)) 30) guestCount)
 
+-- Paper 02, M-100: "free frames of a sound state, have key 0, mark off; all keys are 0 to 15"
+unfoldable pub blankTest : Cell → Bool
+blankTest c = both (eqb (c .key) 0) (not (c .mark))
+
+unfoldable pub cellTest : Layout → List Space → List Cell → (frame : ℕ) → Bool
+cellTest l ss cs f = both (leb (cellAt cs f .key) maxKey) (implies (frameFree l ss f) (blankTest (cellAt cs f)))
+
+unfoldable pub cellsTest : Layout → List Space → List Cell → Bool
+cellsTest l ss cs = both (eqb (length cs) maxFrames) (every (cellTest l ss cs) maxFrames)
+
 unfoldable pub sound : State → Bool
 sound s =
     both (headTest (s .frames) (s .next))
     (both (spacesTest (s .frames) (s .next) (s .guests) (s .spaces))
     (both (guestsTest (s .spaces) (s .guests) (s .cpus))
-    (both (permitsTest (s .guests) (s .spaces) (s .permits)) (entriesTest (s .guests) (s .spaces) (s .permits) (s .entries)))))
+    (both (permitsTest (s .guests) (s .spaces) (s .permits))
+    (both (entriesTest (s .guests) (s .spaces) (s .permits) (s .entries)) (cellsTest (layout s) (s .spaces) (s .cells))))))

@@ -6,6 +6,7 @@ use mathlib.Core.List.{List, []}
 use lib.ListN.{getD, replicate}
 use lib.Dec.{eqb}
 use Rattle.model.specs.declared.Caller.{Caller}
+use Rattle.model.specs.declared.Cell.{Cell}
 use Rattle.model.specs.declared.Cpu.{Cpu}
 use Rattle.model.specs.declared.Entry.{Entry}
 use Rattle.model.specs.declared.Grant.{Grant}
@@ -31,11 +32,15 @@ unusedEntry = record { standing = Unused; sequence = 0 }
 
 -- what a place that no array has reads as
 abbrev pub noCpu : Cpu
-noCpu = record { registers = []; mode = false }
+noCpu = record { registers = []; mode = false; key = 0 }
 
--- registers of zeros, primary mode
+-- registers of zeros, primary mode, access key 0
 abbrev pub zeroCpu : Cpu
-zeroCpu = record { registers = replicate registerCount 0; mode = false }
+zeroCpu = record { registers = replicate registerCount 0; mode = false; key = 0 }
+
+-- paper 02, M-100: "key 0, mark off"
+abbrev pub noCell : Cell
+noCell = record { key = 0; mark = false }
 
 -- Reading.
 abbrev pub spaceAt : List Space → ℕ → Space
@@ -69,6 +74,9 @@ entryPlace g n = guestPlace g * 30 + (n - 2)
 abbrev pub entryAt : List Entry → (guest number : ℕ) → Entry
 entryAt es g n = getD es (entryPlace g n) unusedEntry
 
+abbrev pub cellAt : List Cell → (frame : ℕ) → Cell
+cellAt cs f = getD cs f noCell
+
 -- Replacing: one setter for each table, and no record of all tables anywhere else but in Fresh.
 abbrev pub withNext : State → ℕ → State
 withNext s n = record {
@@ -79,6 +87,7 @@ withNext s n = record {
   cpus = s .cpus;
   permits = s .permits;
   entries = s .entries;
+  cells = s .cells;
 }
 
 abbrev pub withSpaces : State → List Space → State
@@ -90,6 +99,7 @@ withSpaces s x = record {
   cpus = s .cpus;
   permits = s .permits;
   entries = s .entries;
+  cells = s .cells;
 }
 
 abbrev pub withGuests : State → List Guest → State
@@ -101,6 +111,7 @@ withGuests s x = record {
   cpus = s .cpus;
   permits = s .permits;
   entries = s .entries;
+  cells = s .cells;
 }
 
 abbrev pub withCpus : State → List Cpu → State
@@ -112,6 +123,7 @@ withCpus s x = record {
   cpus = x;
   permits = s .permits;
   entries = s .entries;
+  cells = s .cells;
 }
 
 abbrev pub withPermits : State → List Permit → State
@@ -123,6 +135,7 @@ withPermits s x = record {
   cpus = s .cpus;
   permits = x;
   entries = s .entries;
+  cells = s .cells;
 }
 
 abbrev pub withEntries : State → List Entry → State
@@ -134,4 +147,27 @@ withEntries s x = record {
   cpus = s .cpus;
   permits = s .permits;
   entries = x;
+  cells = s .cells;
 }
+
+abbrev pub withCells : State → List Cell → State
+withCells s x = record {
+  frames = s .frames;
+  next = s .next;
+  spaces = s .spaces;
+  guests = s .guests;
+  cpus = s .cpus;
+  permits = s .permits;
+  entries = s .entries;
+  cells = x;
+}
+
+-- a CPU block with one of its parts replaced
+abbrev pub withRegisters : Cpu → List ℕ → Cpu
+withRegisters c x = record { registers = x; mode = c .mode; key = c .key }
+
+abbrev pub withMode : Cpu → Bool → Cpu
+withMode c x = record { registers = c .registers; mode = x; key = c .key }
+
+abbrev pub withKey : Cpu → ℕ → Cpu
+withKey c x = record { registers = c .registers; mode = c .mode; key = x }

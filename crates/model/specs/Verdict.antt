@@ -8,12 +8,13 @@ use lib.Dec.{eqb}
 use Rattle.lists.specs.Choice.{either}
 use Rattle.model.specs.declared.Answer.{Answer}
 use Rattle.model.specs.declared.Operation.{Operation}
-use Rattle.model.specs.declared.Operation.the-variants.{Enrol, Create, Destroy, Permit, Isolate, Query, Add, Remove, Load, Mode, Fetch, Store, Reset}
+use Rattle.model.specs.declared.Operation.the-variants.{Enrol, Create, Destroy, Permit, Isolate, Query, Add, Remove, Load, Mode, Fetch, Store, Reset, Key, Block}
 use Rattle.model.specs.Answers.{number}
 use Rattle.model.specs.Decision.{Decision, refuse}
 
 -- what each call may answer after the checks 1 and 2, in the paper's order. The paper's row for FETCH and STORE lists 18,
--- which a fetch never gives.
+-- which a fetch never gives. Paper 02, M-100: "22, key protection, in FETCH and STORE after 18; KEY and BLOCK use 1, 2, 3,
+-- BLOCK then 5, 6, 17."
 unfoldable pub ownRow : Operation → List ℕ
 ownRow (Enrol x) = 3 ∷ 9 ∷ 11 ∷ 10 ∷ []
 ownRow (Create name pages) = 3 ∷ 4 ∷ 8 ∷ 9 ∷ 11 ∷ 10 ∷ []
@@ -25,9 +26,11 @@ ownRow (Add id right) = 5 ∷ 12 ∷ 13 ∷ []
 ownRow (Remove token) = 14 ∷ 15 ∷ []
 ownRow (Load register value) = 3 ∷ []
 ownRow (Mode m) = 3 ∷ 19 ∷ []
-ownRow (Fetch register address) = 3 ∷ 14 ∷ 15 ∷ 16 ∷ 17 ∷ []
-ownRow (Store register address) = 3 ∷ 14 ∷ 15 ∷ 16 ∷ 17 ∷ 18 ∷ []
+ownRow (Fetch register address) = 3 ∷ 14 ∷ 15 ∷ 16 ∷ 17 ∷ 22 ∷ []
+ownRow (Store register address) = 3 ∷ 14 ∷ 15 ∷ 16 ∷ 17 ∷ 18 ∷ 22 ∷ []
 ownRow Reset = []
+ownRow (Key key) = 3 ∷ []
+ownRow (Block id address key mark) = 3 ∷ 5 ∷ 6 ∷ 17 ∷ []
 
 -- "All check 1, then 2 first."
 unfoldable pub row : Operation → List ℕ

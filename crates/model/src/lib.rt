@@ -50,14 +50,21 @@ pub struct Guest {
     pub asf: bool,
 }
 
-// The access registers of a CPU, and its mode: true is access-register mode, false primary mode.
+// The access registers of a CPU, its mode, true for access-register mode and false for primary mode, and its access key.
 pub struct Cpu {
     pub registers: [u32; 16],
     pub mode: bool,
+    pub key: u8,
+}
+
+// What protects one frame: its 4-bit key, and its fetch-protect mark.
+pub struct Cell {
+    pub key: u8,
+    pub mark: bool,
 }
 
 // Guest g stands at place g - 1 of guests and cpus; its permit for the space in slot u at place u * 8 + (g - 1);
-// entry n of its list at place (g - 1) * 30 + (n - 2).
+// entry n of its list at place (g - 1) * 30 + (n - 2); the cell of frame f at place f.
 pub struct State {
     pub frames: u32,
     pub next: u32,
@@ -66,6 +73,7 @@ pub struct State {
     pub cpus: [Cpu; 8],
     pub permits: [Permit; 256],
     pub entries: [Entry; 240],
+    pub cells: [Cell; 512],
 }
 
 // The kinds of arguments that have limits.
@@ -79,6 +87,7 @@ pub enum Kind {
     Length,
     OtherGuest,
     Frames,
+    Key,
 }
 
 // One case for each reason. specs/Answers.antt gives each the paper's number and value.
@@ -105,6 +114,7 @@ pub enum Answer {
     SpecialOperation,
     PrimarySpace,
     LineNotRead,
+    KeyProtection,
 }
 
 // Who calls.
@@ -122,22 +132,63 @@ pub struct Settings {
     pub asf: u32,
 }
 
-// The thirteen calls with their arguments, the caller left out. ENROL's guest is its caller. The length of a fetch or
+// The fifteen calls with their arguments, the caller left out. ENROL's guest is its caller. The length of a fetch or
 // store is that of the lent buffer.
 pub enum Operation {
-    Enrol { settings: Settings },
-    Create { name: u64, pages: u32 },
-    Destroy { id: u32 },
-    Permit { id: u32, guest: u32, right: Right },
-    Isolate { id: u32 },
-    Query { owner: u32, name: u64 },
-    Add { id: u32, right: Right },
-    Remove { token: u32 },
-    Load { register: u32, value: u32 },
-    Mode { mode: u32 },
-    Fetch { register: u32, address: u32 },
-    Store { register: u32, address: u32 },
+    Enrol {
+        settings: Settings,
+    },
+    Create {
+        name: u64,
+        pages: u32,
+    },
+    Destroy {
+        id: u32,
+    },
+    Permit {
+        id: u32,
+        guest: u32,
+        right: Right,
+    },
+    Isolate {
+        id: u32,
+    },
+    Query {
+        owner: u32,
+        name: u64,
+    },
+    Add {
+        id: u32,
+        right: Right,
+    },
+    Remove {
+        token: u32,
+    },
+    Load {
+        register: u32,
+        value: u32,
+    },
+    Mode {
+        mode: u32,
+    },
+    Fetch {
+        register: u32,
+        address: u32,
+    },
+    Store {
+        register: u32,
+        address: u32,
+    },
     Reset,
+    Key {
+        key: u32,
+    },
+    Block {
+        id: u32,
+        address: u32,
+        key: u32,
+        mark: u32,
+    },
 }
 
 pub struct Call {
@@ -185,6 +236,14 @@ pub enum Change {
     },
     ResetGuest {
         guest: u8,
+    },
+    SetKey {
+        cpu: u8,
+        key: u8,
+    },
+    SetCell {
+        place: u16,
+        cell: Cell,
     },
 }
 
