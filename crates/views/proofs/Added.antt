@@ -1,4 +1,4 @@
--- The space that ADD names, and the entry that it takes, as it has seen them. Assumes nothing.
+-- The entry that ADD takes, as it has seen it. Assumes nothing.
 use Prim.Native.Nat.{ℕ, min, _+_, _-_, _*_, _≤_, _<_}
 use mathlib.Core.Bool.{Bool, true, false}
 use mathlib.Core.Path.{_≡_, refl, sym, ap, ap₂, _∙_}
@@ -7,7 +7,7 @@ use lib.Dec.{ltb}
 use lib.ListN.{getD}
 use borrow.Author.Tests.{lt-ltb}
 use Rattle.lists.specs.Choice.{choose}
-use Rattle.lists.specs.Places.{lowest, lowestFrom}
+use Rattle.lists.specs.Places.{lowestFrom}
 use Rattle.lists.proofs.Choice.{yes! }
 use Rattle.lookup.specs.Rows.{rowOf}
 use Rattle.lookup.proofs.Lists.{free-entry-at}
@@ -16,20 +16,15 @@ use Rattle.model.specs.declared.Guest.{Guest}
 use Rattle.model.specs.declared.Operation.the-variants.{Add}
 use Rattle.model.specs.declared.Right.{Right}
 use Rattle.model.specs.declared.State.{State}
-use Rattle.model.specs.Searches.{mayTake, slotOf, freeEntry}
+use Rattle.model.specs.Searches.{mayTake, freeEntry}
 use Rattle.model.specs.SoundTest.{sound}
 use Rattle.model.specs.Tables.{noGuest, unusedEntry, guestAt, guestPlace, entryAt}
 use Rattle.model.proofs.SoundTest.{sound-decides}
 use Rattle.views.specs.declared.View.{View}
 use Rattle.views.specs.Asks.{asksBy}
-use Rattle.views.specs.Search.{soughtBy, searchUsing, searchBy, foundBy}
 use Rattle.views.specs.Taking.{takingFor, takenBy, listed, freePlace}
 use Rattle.views.specs.Views.{viewOf}
 use Rattle.views.proofs.Judged.{seen-enrolled, place-own, row-own, seen-caller}
-
-pub add-finds : (s : State) (g i : ℕ) (r : Right) (v : View) → v ≡ viewOf s (asksBy g (Add i r)) → v .slot ≡ slotOf (s .spaces) i
-unfolding viewOf asksBy searchUsing searchBy foundBy choose soughtBy slotOf lowest
-add-finds s g i r v e = ap (λ (x : View). x .slot) e
 
 module _ (s : State) (g i : ℕ) (r : Right) (v : View) (e : v ≡ viewOf s (asksBy g (Add i r))) (l : v .place < 8) where
   row : rowOf g ≡ guestPlace g

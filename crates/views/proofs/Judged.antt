@@ -10,7 +10,7 @@ use Rattle.lookup.proofs.Rows.{row-place, enrolled-row}
 use Rattle.model.specs.declared.Answer.the-variants.{BadCaller}
 use Rattle.model.specs.declared.Caller.{Caller}
 use Rattle.model.specs.declared.Operation.{Operation}
-use Rattle.model.specs.declared.Operation.the-variants.{Enrol, Create, Destroy, Permit, Isolate, Query, Add, Remove, Load, Mode, Fetch, Store, Reset}
+use Rattle.model.specs.declared.Operation.the-variants.{Enrol, Create, Destroy, Permit, Isolate, Query, Add, Remove, Load, Mode, Fetch, Store, Reset, Key, Block}
 use Rattle.model.specs.declared.State.{State}
 use Rattle.model.specs.Arguments.{arguments, checkAll}
 use Rattle.model.specs.Calls.{enrols, goodCaller, judge, perform}
@@ -41,6 +41,8 @@ asks-caller g (Mode mode) = refl
 asks-caller g (Fetch register address) = refl
 asks-caller g (Store register address) = refl
 asks-caller g Reset = refl
+asks-caller g (Key key) = refl
+asks-caller g (Block id address key mark) = refl
 
 module _ (s : State) (g : ℕ) (o : Operation) (v : View) (e : v ≡ viewOf s (asksBy g o)) where
   pub seen-place : v .place ≡ callerPlace (s .guests) g

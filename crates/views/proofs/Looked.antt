@@ -10,11 +10,13 @@ use Rattle.lookup.specs.Rows.{rowOf, slotRow}
 use Rattle.lookup.proofs.Rows.{row-place}
 use Rattle.model.specs.declared.Right.{Right}
 use Rattle.model.specs.declared.State.{State}
-use Rattle.model.specs.declared.Operation.the-variants.{Permit, Isolate, Query}
+use Rattle.model.specs.declared.Operation.the-variants.{Permit, Query}
 use Rattle.model.specs.Leaves.{callerPlace}
 use Rattle.model.specs.Searches.{slotOf, slotNamed}
 use Rattle.model.specs.Tables.{noPermit, spaceAt}
 use Rattle.views.specs.declared.Asks.{Asks}
+use Rattle.views.specs.declared.Sought.the-variants.{Id}
+use Rattle.views.specs.declared.Uses.the-variants.{Token}
 use Rattle.views.specs.declared.View.{View}
 use Rattle.views.specs.Asks.{asksBy}
 use Rattle.views.specs.Search.{soughtBy, searchUsing, searchBy, foundBy}
@@ -40,14 +42,10 @@ module _ (s : State) (a : Asks) (v : View) (e : v ≡ viewOf s a) where
       permit-row : v .permit ≡ getD (s .permits) (slotRow (v .slot) * 8 + rowOf (a .other)) noPermit
       permit-row = rw e refl
 
--- by identification, and by owner and name
-pub permit-finds : (s : State) (g i h : ℕ) (r : Right) (v : View) → v ≡ viewOf s (asksBy g (Permit i h r)) → v .slot ≡ slotOf (s .spaces) i
-unfolding viewOf asksBy searchUsing searchBy foundBy choose soughtBy slotOf lowest
-permit-finds s g i h r v e = ap (λ (x : View). x .slot) e
-
-pub isolate-finds : (s : State) (g i : ℕ) (v : View) → v ≡ viewOf s (asksBy g (Isolate i)) → v .slot ≡ slotOf (s .spaces) i
-unfolding viewOf asksBy searchUsing searchBy foundBy choose soughtBy slotOf lowest
-isolate-finds s g i v e = ap (λ (x : View). x .slot) e
+-- by identification, for every call that names its space so; and by owner and name
+pub id-finds : (s : State) (a : Asks) (i : ℕ) (v : View) → a .uses ≡ Token 0 → a .sought ≡ Id i → v ≡ viewOf s a → v .slot ≡ slotOf (s .spaces) i
+unfolding viewOf searchUsing searchBy foundBy choose soughtBy slotOf lowest
+id-finds s a i v plain named e = ap (λ (x : View). x .slot) e ∙ rw (plain, named) refl
 
 pub query-finds : (s : State) (g o n : ℕ) (v : View) → v ≡ viewOf s (asksBy g (Query o n)) → v .slot ≡ slotNamed (s .spaces) o n
 unfolding viewOf asksBy searchUsing searchBy foundBy choose soughtBy slotNamed lowest

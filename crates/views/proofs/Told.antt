@@ -6,14 +6,13 @@ use borrow.Author.Tests.{le-leb, lt-leb, ne-eqb, eq-eqb}
 use Rattle.lists.proofs.Choice.{yes!, no! }
 use Rattle.model.specs.declared.Call.{Call}
 use Rattle.model.specs.declared.Cpu.{Cpu}
-use Rattle.model.specs.declared.Operation.the-variants.{Permit, Isolate, Query, Add, Remove}
-use Rattle.model.specs.declared.Right.{Right}
+use Rattle.model.specs.declared.Operation.{Operation}
 use Rattle.model.specs.declared.Standing.{Standing}
 use Rattle.model.specs.Names.{baseName}
 use Rattle.model.specs.Tokens.{tokenUsed}
 use Rattle.views.specs.declared.Asks.{Asks}
 use Rattle.views.specs.declared.Search.{Search}
-use Rattle.views.specs.declared.Sought.the-variants.{Nothing, Id, Named}
+use Rattle.views.specs.declared.Sought.the-variants.{Named}
 use Rattle.views.specs.declared.Uses.{Uses}
 use Rattle.views.specs.declared.Uses.the-variants.{Token, Register}
 use Rattle.views.specs.Asks.{asksBy, tokenBy}
@@ -23,25 +22,9 @@ module _ (k : Call) where
   abbrev asked : Asks
   asked = asksBy (k .caller .guest) (k .operation)
 
-  pub asks-permit : (i g : ℕ) (r : Right) → k .operation ≡ Permit i g r → record { caller = k .caller .guest; other = g; uses = Token 0; sought = Id i; takes = false } ≡ asked
-  unfolding asksBy
-  asks-permit i g r e = rw e refl
-
-  pub asks-isolate : (i : ℕ) → k .operation ≡ Isolate i → record { caller = k .caller .guest; other = k .caller .guest; uses = Token 0; sought = Id i; takes = false } ≡ asked
-  unfolding asksBy
-  asks-isolate i e = rw e refl
-
-  pub asks-query : (o n : ℕ) → k .operation ≡ Query o n → record { caller = k .caller .guest; other = k .caller .guest; uses = Token 0; sought = Named o n; takes = false } ≡ asked
-  unfolding asksBy
-  asks-query o n e = rw e refl
-
-  pub asks-add : (i : ℕ) (r : Right) → k .operation ≡ Add i r → record { caller = k .caller .guest; other = k .caller .guest; uses = Token 0; sought = Id i; takes = true } ≡ asked
-  unfolding asksBy
-  asks-add i r e = rw e refl
-
-  pub asks-remove : (t : ℕ) → k .operation ≡ Remove t → record { caller = k .caller .guest; other = k .caller .guest; uses = Token t; sought = Nothing; takes = false } ≡ asked
-  unfolding asksBy
-  asks-remove t e = rw e refl
+  -- a call that was found to be o asks for what o asks for
+  pub asks-as : (o : Operation) (x : Asks) → k .operation ≡ o → x ≡ asksBy (k .caller .guest) o → x ≡ asked
+  asks-as o x e p = p ∙ ap (asksBy (k .caller .guest)) (sym e)
 
 -- the token
 module _ (u : Uses) (c : Cpu) where

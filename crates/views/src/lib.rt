@@ -1,14 +1,15 @@
 // What a call looks at in the tables: a few elements. Whoever owns the tables reads them out and hands them to the call, so
 // that no table is moved to it. Which elements they are is `viewOf` of the specs.
-ghost use Prim.Native.Nat.{_≤_, _<_};
+ghost use Prim.Native.Nat.{_+_, _/_, _≤_, _<_};
 ghost use mathlib.Core.Bool.{true, false};
 ghost use mathlib.Core.Path.{_≡_};
-ghost use Rattle.views.specs.declared.Sought.the-variants.{Nothing};
-ghost use Rattle.views.specs.declared.Uses.the-variants.{Register};
+ghost use Rattle.views.specs.declared.Sought.the-variants.{Nothing, Id};
+ghost use Rattle.views.specs.declared.Uses.the-variants.{Token, Register};
 ghost use Rattle.views.specs.Asks.{asksBy, asksFor, plainly, tokenBy};
 ghost use Rattle.views.specs.Search.{soughtBy, searchBy, searchThrough, searchFor, Advanced};
 ghost use Rattle.views.specs.Taking.{takingFor, WithinList, WentOn, freePlace};
-ghost use Rattle.views.specs.Views.{viewOf};
+ghost use Rattle.views.specs.Views.{cellPlace, viewOf};
+use keys::Guard;
 use model::BASE;
 use model::Call;
 use model::Cpu;
@@ -34,13 +35,15 @@ pub enum Sought {
     Named { owner: u32, name: u64 },
 }
 
-// What a call asks to see. `other` is the guest whose permit it looks at; `takes` tells whether it takes an entry of its list.
+// What a call asks to see. `other` is the guest whose permit it looks at; `takes` tells whether it takes an entry of its list;
+// from `address` on it moves bytes of the space.
 pub struct Asks {
     pub caller: u32,
     pub other: u32,
     pub uses: Uses,
     pub sought: Sought,
     pub takes: bool,
+    pub address: u32,
 }
 
 // A search through the slots. While it is looking it comes to slot `at` next; then `at` is what it found, 32 for nothing.
@@ -59,7 +62,8 @@ pub struct Taking {
 
 // What it sees: the places of the caller and of the other guest, 8 for one that is not enrolled; what stands in the caller's
 // row; the token, and the entry that it names; the slot of the space, what stands there, and the other guest's permit for it;
-// the entry that may be taken, counted from 0, and what stands there.
+// the entry that may be taken, counted from 0, and what stands there; the caller's access key, and what protects the block of the
+// address and the block after it.
 pub struct View {
     pub place: usize,
     pub guest: Guest,
@@ -71,6 +75,7 @@ pub struct View {
     pub permit: Permit,
     pub free: u8,
     pub unused: Entry,
+    pub guard: Guard,
 }
 
 // A call that asks for its caller alone.
@@ -83,12 +88,13 @@ fn plain(caller: u32) -> Asks
         uses: Uses::Token { token: 0 },
         sought: Sought::Nothing,
         takes: false,
+        address: 0,
     }
 }
 
 // FETCH and STORE.
-fn through(caller: u32, register: u32) -> Asks
-    ensures { λ r. ⌜ r ≡ record { caller = caller; other = caller; uses = Register register; sought = Nothing; takes = false } ⌝ }
+fn through(caller: u32, register: u32, address: u32) -> Asks
+    ensures { λ r. ⌜ r ≡ record { caller = caller; other = caller; uses = Register register; sought = Nothing; takes = false; address = address } ⌝ }
 {
     Asks {
         caller: caller,
@@ -96,6 +102,21 @@ fn through(caller: u32, register: u32) -> Asks
         uses: Uses::Register { register: register },
         sought: Sought::Nothing,
         takes: false,
+        address: address,
+    }
+}
+
+// A call that names a space by its identification, and looks at a guest's permit for it.
+fn naming(caller: u32, other: u32, id: u32, takes: bool) -> Asks
+    ensures { λ r. ⌜ r ≡ record { caller = caller; other = other; uses = Token 0; sought = Id id; takes = takes; address = 0 } ⌝ }
+{
+    Asks {
+        caller: caller,
+        other: other,
+        uses: Uses::Token { token: 0 },
+        sought: Sought::Id { id: id },
+        takes: takes,
+        address: 0,
     }
 }
 
@@ -113,20 +134,8 @@ pub fn asked_by(call: Call) -> Asks
             id,
             guest,
             right: _,
-        } => Asks {
-            caller: g,
-            other: guest,
-            uses: Uses::Token { token: 0 },
-            sought: Sought::Id { id: id },
-            takes: false,
-        },
-        Operation::Isolate { id } => Asks {
-            caller: g,
-            other: g,
-            uses: Uses::Token { token: 0 },
-            sought: Sought::Id { id: id },
-            takes: false,
-        },
+        } => naming(g, guest, id, false),
+        Operation::Isolate { id } => naming(g, g, id, false),
         Operation::Query { owner, name } => Asks {
             caller: g,
             other: g,
@@ -136,35 +145,32 @@ pub fn asked_by(call: Call) -> Asks
                 name: name,
             },
             takes: false,
+            address: 0,
         },
-        Operation::Add { id, right: _ } => Asks {
-            caller: g,
-            other: g,
-            uses: Uses::Token { token: 0 },
-            sought: Sought::Id { id: id },
-            takes: true,
-        },
+        Operation::Add { id, right: _ } => naming(g, g, id, true),
         Operation::Remove { token } => Asks {
             caller: g,
             other: g,
             uses: Uses::Token { token: token },
             sought: Sought::Nothing,
             takes: false,
+            address: 0,
         },
         Operation::Load {
             register: _,
             value: _,
         } => plain(g),
         Operation::Mode { mode: _ } => plain(g),
-        Operation::Fetch {
-            register,
-            address: _,
-        } => through(g, register),
-        Operation::Store {
-            register,
-            address: _,
-        } => through(g, register),
+        Operation::Fetch { register, address } => through(g, register, address),
+        Operation::Store { register, address } => through(g, register, address),
         Operation::Reset => plain(g),
+        Operation::Key { key: _ } => plain(g),
+        Operation::Block {
+            id,
+            address: _,
+            key: _,
+            mark: _,
+        } => naming(g, g, id, false),
     }
 }
 
@@ -340,6 +346,20 @@ pub fn free_place(row: usize, free: u8) -> usize
     row * 30
 }
 
+// Where the cell of the block stands in which the byte at an address of a space lies, and where that of the block after it. There
+// are always such places: those of an address that the space does not have are of no account.
+pub fn block_place(x: Space, address: u32) -> usize
+    ensures { λ r. ⌜ (r ≡ cellPlace x (address / 4096)) × (r < 512) ⌝ }
+{
+    (x.first as usize + (address / 4096) as usize) % 512
+}
+
+pub fn beyond_place(x: Space, address: u32) -> usize
+    ensures { λ r. ⌜ (r ≡ cellPlace x (address / 4096 + 1)) × (r < 512) ⌝ }
+{
+    (block_place(x, address) + 1) % 512
+}
+
 // What a call sees of a state that is handed over.
 pub fn seen_in(s: State, a: Asks) -> View
     ensures { λ r. ⌜ r ≡ viewOf s a ⌝ }
@@ -367,6 +387,8 @@ pub fn seen_in(s: State, a: Asks) -> View
     let other = s.guests[column];
     let permit = s.permits[u * 8 + column];
     let unused = s.entries[free_place(row, take.at)];
+    let block = s.cells[block_place(space, a.address)];
+    let beyond = s.cells[beyond_place(space, a.address)];
     View {
         place: lookup::place_of(guest, a.caller),
         guest: guest,
@@ -378,5 +400,10 @@ pub fn seen_in(s: State, a: Asks) -> View
         permit: permit,
         free: take.at,
         unused: unused,
+        guard: Guard {
+            key: cpu.key,
+            block: block,
+            beyond: beyond,
+        },
     }
 }

@@ -12,16 +12,16 @@ use Rattle.views.proofs.seen_in.Statement.{statement}
 use Rattle.views.proofs.seen_in.Tie as tie
 
 abbrev Inv-loop : tie.InvT-loop
-Inv-loop a s row guest token entry search₀ search = (foundBy search (s .spaces) ≡ foundBy search₀ (s .spaces)) × (search .looking ≡ true → search .at < 32)
+Inv-loop a s row guest cpu token entry search₀ search = (foundBy search (s .spaces) ≡ foundBy search₀ (s .spaces)) × (search .looking ≡ true → search .at < 32)
 
 abbrev μ-loop : tie.MeasureT-loop
-μ-loop a s row guest token entry search₀ search = leftOf search
+μ-loop a s row guest cpu token entry search₀ search = leftOf search
 
 abbrev Inv-loop2 : tie.InvT-loop2
-Inv-loop2 a s row guest token entry search take₀ take = (takenBy take (s .entries) row ≡ takenBy take₀ (s .entries) row) × WithinList take
+Inv-loop2 a s row guest cpu token entry search take₀ take = (takenBy take (s .entries) row ≡ takenBy take₀ (s .entries) row) × WithinList take
 
 abbrev μ-loop2 : tie.MeasureT-loop2
-μ-loop2 a s row guest token entry search take₀ take = leftIn take
+μ-loop2 a s row guest cpu token entry search take₀ take = leftIn take
 
 loop-holds : tie.Need-loop-holds Inv-loop μ-loop Inv-loop2 μ-loop2
 loop-holds c = (refl, search needs)
@@ -51,7 +51,7 @@ loop2-again : tie.Need-loop2-again Inv-loop μ-loop Inv-loop2 μ-loop2
 loop2-again c = (search took-on, search took-within)
 
 returns : tie.Need-returns Inv-loop μ-loop Inv-loop2 μ-loop2
-returns c = view-read _ _ _ _ _ _ _ _ _ _ _ _ _ _ (c .before .before .before .before .before .before .before .before .before .before .before .before .before .before .before .before .before .before .before .before .before .row .ensures .0) (c .before .before .before .before .before .before .before .before .before .before .before .before .before .before .before .before .before .before .token-seen .ensures) (c .before .before .before .before .before .before .before .before .before .before .before .before .before .before .before .before .before .entry-place .ensures .0) (c .before .before .before .before .before .before .before .before .before .before .before .before .before .before .before .search-for .ensures .0) (c .before .before .before .before .before .before .before .before .before .before .before .before .before .before .loop .inv .0) (c .before .before .before .before .before .before .before .before .before .before .before .before .before .loop-test .left) (c .before .before .before .before .before .before .before .before .before .before .before .before .take-from .ensures .0) (c .before .before .before .before .before .before .before .before .before .before .before .loop2 .inv .0) (c .before .before .before .before .before .before .before .before .before .before .loop2-test .left) (c .before .before .before .before .before .before .before .before .slot-row .ensures .0) (c .before .before .before .before .before .before .row2 .ensures .0) (c .before .before .before .free-place .ensures .0) (c .before .place-of .ensures) (c .place-of2 .ensures)
+returns c = view-read _ _ _ _ _ _ _ _ _ _ _ _ _ _ _ _ (c .before .before .before .before .before .before .before .before .before .before .before .before .before .before .before .before .before .before .before .before .before .before .before .before .before .row .ensures .0) (c .before .before .before .before .before .before .before .before .before .before .before .before .before .before .before .before .before .before .before .before .before .before .token-seen .ensures) (c .before .before .before .before .before .before .before .before .before .before .before .before .before .before .before .before .before .before .before .before .before .entry-place .ensures .0) (c .before .before .before .before .before .before .before .before .before .before .before .before .before .before .before .before .before .before .before .search-for .ensures .0) (c .before .before .before .before .before .before .before .before .before .before .before .before .before .before .before .before .before .before .loop .inv .0) (c .before .before .before .before .before .before .before .before .before .before .before .before .before .before .before .before .before .loop-test .left) (c .before .before .before .before .before .before .before .before .before .before .before .before .before .before .before .before .take-from .ensures .0) (c .before .before .before .before .before .before .before .before .before .before .before .before .before .before .before .loop2 .inv .0) (c .before .before .before .before .before .before .before .before .before .before .before .before .before .before .loop2-test .left) (c .before .before .before .before .before .before .before .before .before .before .before .before .slot-row .ensures .0) (c .before .before .before .before .before .before .before .before .before .before .row2 .ensures .0) (c .before .before .before .before .before .before .before .free-place .ensures .0) (c .before .place-of .ensures) (c .place-of2 .ensures) (c .before .before .before .before .before .block-place .ensures .0) (c .before .before .before .beyond-place .ensures .0)
 
 pub seen-in-spec : {M : Type 1} → statement M
 seen-in-spec =
@@ -96,6 +96,12 @@ seen-in-spec =
     (λ c. search needs)
     (λ c. search needs)
     (λ c. search needs)
+    (λ c. search needs)
+    (λ c. search needs)
+    (λ c κs. search needs)
+    (λ c. search needs)
+    (λ c. search needs)
+    (λ c κs. search needs)
     (λ c. search needs)
     (λ c. search needs)
     (λ c κs. search needs)
