@@ -1,5 +1,5 @@
 -- From what FETCH and STORE have seen to what the model judges. Assumes nothing.
-use Prim.Native.Nat.{ℕ, _-_, _*_, _≤_, _<_}
+use Prim.Native.Nat.{ℕ, _+_, _-_, _*_, _/_, _≤_, _<_}
 use mathlib.Core.Bool.{Bool, true, false, not}
 use mathlib.Core.List.{List}
 use mathlib.Core.Logic.{⊎-elim, _≢_}
@@ -11,7 +11,7 @@ use lib.ListN.{length, getD}
 use borrow.Author.Tests.{leb-true, le-leb, lt-ltb, eq-eqb, ne-eqb}
 use Rattle.lists.specs.Choice.{choose}
 use Rattle.lists.specs.Places.{lowest}
-use Rattle.lists.proofs.Choice.{yes!, no!, both-right}
+use Rattle.lists.proofs.Choice.{yes!, no!, both-left, both-right}
 use Rattle.lists.proofs.Rules.{test-yes}
 use Rattle.model.specs.declared.Entry.{Entry}
 use Rattle.model.specs.declared.Guest.{Guest}
@@ -22,11 +22,13 @@ use Rattle.model.specs.declared.State.{State}
 use Rattle.model.specs.declared.Translation.{Translation}
 use Rattle.model.specs.declared.Translation.the-variants.{Reached}
 use Rattle.model.specs.Arguments.{goodLength}
-use Rattle.model.specs.Frames.{frameOf}
+use Rattle.model.specs.Frames.{layout, frameOf}
+use Rattle.model.specs.Keys.{blockAt, keyPermits}
 use Rattle.model.specs.Searches.{enrolled, slotNamed, primarySlot}
 use Rattle.model.specs.Sound.{Live, Sound}
 use Rattle.model.specs.SoundTest.{sound}
-use Rattle.model.specs.Tables.{spaceAt, guestPlace, cpuAt, entryAt, unusedEntry}
+use Rattle.model.specs.Sizes.{frameSize}
+use Rattle.model.specs.Tables.{spaceAt, guestPlace, cpuAt, cellAt, entryAt, unusedEntry}
 use Rattle.model.specs.Through.{ThroughPrimary, ThroughEntry}
 use Rattle.model.specs.Tokens.{tokenUsed, entryNumber}
 use Rattle.model.specs.Translation.{translate}
@@ -34,16 +36,17 @@ use Rattle.model.proofs.Reached.{reached, reached-live}
 use Rattle.model.proofs.Searches.{live-slot}
 use Rattle.model.proofs.SoundTest.{sound-decides}
 use Rattle.lookup.specs.Rows.{rowOf, slotRow}
-use Rattle.transfer.specs.Transferred.{RunIn}
+use Rattle.keys.specs.Guards.{guardAllows}
+use Rattle.keys.proofs.Guarded.{guarded}
+use Rattle.transfer.specs.Transferred.{RunIn, inside}
 use Rattle.translation.specs.Translated.{tokenPlace, translatedBy}
 use Rattle.translation.proofs.Translated.{translated-is, named-place}
 use Rattle.views.specs.declared.Asks.{Asks}
-use Rattle.views.specs.declared.Sought.the-variants.{Nothing}
-use Rattle.views.specs.declared.Uses.the-variants.{Register}
 use Rattle.views.specs.declared.View.{View}
-use Rattle.views.specs.Asks.{asksBy, tokenBy}
+use Rattle.views.specs.Asks.{moving, asksBy, tokenBy}
 use Rattle.views.specs.Search.{soughtBy, searchUsing, searchThrough, slotIn, foundBy}
-use Rattle.views.specs.Views.{viewOf}
+use Rattle.views.specs.Views.{cellPlace, viewOf}
+use Rattle.views.proofs.Cells.{cell-frame}
 use Rattle.views.proofs.Judged.{seen-enrolled, row-own, seen-guest}
 
 -- guest g has passed check 2 and the register check 3, and the translation for it through register r is x
@@ -52,15 +55,12 @@ pub record Aimed (s : State) (g r : ℕ) (x : Translation) : Type 0 where
   pub register : r ≤ 15
   pub is : x ≡ translate s g (tokenUsed (cpuAt (s .cpus) (guestPlace g)) r)
 
-abbrev pub throughRegister : (guest register : ℕ) → Asks
-throughRegister g r = record { caller = g; other = g; uses = Register r; sought = Nothing; takes = false }
-
--- the call o of guest g has been seen, through register r
-module _ (s : State) (g r : ℕ) (o : Operation) (v : View) (asks : asksBy g o ≡ throughRegister g r) (e : v ≡ viewOf s (asksBy g o)) (l : v .place < 8) (b : r ≤ 15) where
+-- the call o of guest g has been seen, through register r from address a on
+module _ (s : State) (g r a : ℕ) (o : Operation) (v : View) (asks : asksBy g o ≡ moving g r a) (e : v ≡ viewOf s (asksBy g o)) (l : v .place < 8) (b : r ≤ 15) where
   row : rowOf g ≡ guestPlace g
-  row = ap (λ (a : Asks). rowOf (a .caller)) (sym asks) ∙ row-own s g o v e l
+  row = ap (λ (k : Asks). rowOf (k .caller)) (sym asks) ∙ row-own s g o v e l
 
-  seen : v ≡ viewOf s (throughRegister g r)
+  seen : v ≡ viewOf s (moving g r a)
   seen = e ∙ ap (viewOf s) asks
 
   abbrev token : ℕ
@@ -99,7 +99,7 @@ module _ (s : State) (g r : ℕ) (o : Operation) (v : View) (asks : asksBy g o �
       register = b;
       is = y
           ∙ ap (translatedBy (v .slot) (v .guest .list) (v .entry)) token-is
-          ∙ ap₂ (λ (a : Guest) n. translatedBy (v .slot) (a .list) n token) (seen-guest s g o v e l) entry-is
+          ∙ ap₂ (λ (h : Guest) n. translatedBy (v .slot) (h .list) n token) (seen-guest s g o v e l) entry-is
           ∙ translated-is s g (guestPlace g) token (v .slot) refl slot-primary;
     }
 
@@ -126,9 +126,38 @@ module _ (s : State) (g r : ℕ) (o : Operation) (v : View) (asks : asksBy g o �
       pub reached-space : v .space ≡ spaceAt (s .spaces) u
       unfolding viewOf slotRow
       reached-space =
-          ap (λ (a : View). a .space) seen
-          ∙ ap (λ k. spaceAt (s .spaces) (slotRow k)) (sym (ap (λ (a : View). a .slot) seen) ∙ slot-reached)
+          ap (λ (k : View). k .space) seen
+          ∙ ap (λ k. spaceAt (s .spaces) (slotRow k)) (sym (ap (λ (k : View). k .slot) seen) ∙ slot-reached)
           ∙ ap (spaceAt (s .spaces)) (yes! _ _ (lt-ltb u 32 (live-slot (s .spaces) u 32 (ok .spaces .len) reached-is-live)))
+
+      -- what protects the blocks of a page and of the next one, where the space has them
+      block-is : a / frameSize < spaceAt (s .spaces) u .pages → v .guard .block ≡ blockAt s u a
+      unfolding viewOf
+      block-is b =
+          ap (λ (k : View). k .guard .block) seen
+          ∙ ap (λ x. cellAt (s .cells) (cellPlace x (a / frameSize))) (sym (ap (λ (k : View). k .space) seen) ∙ reached-space)
+          ∙ ap (cellAt (s .cells)) (cell-frame s u (a / frameSize) ok reached-is-live b)
+
+      beyond-is : a / frameSize + 1 < spaceAt (s .spaces) u .pages → v .guard .beyond ≡ cellAt (s .cells) (frameOf (layout s) u (a / frameSize + 1))
+      unfolding viewOf
+      beyond-is b =
+          ap (λ (k : View). k .guard .beyond) seen
+          ∙ ap (λ x. cellAt (s .cells) (cellPlace x (a / frameSize + 1))) (sym (ap (λ (k : View). k .space) seen) ∙ reached-space)
+          ∙ ap (cellAt (s .cells)) (cell-frame s u (a / frameSize + 1) ok reached-is-live b)
+
+      key-is : v .guard .key ≡ cpuAt (s .cpus) (guestPlace g) .key
+      unfolding viewOf
+      key-is = ap (λ (k : View). k .guard .key) seen ∙ ap (λ k. cpuAt (s .cpus) k .key) row
+
+      -- check 22 of an access inside the space
+      pub guard-reached : (n : ℕ) → goodLength n ≡ true → (w : Bool) → inside (spaceAt (s .spaces) u) a n ≡ true
+          → guardAllows (v .guard) w a n ≡ keyPermits s w (cpuAt (s .cpus) (guestPlace g) .key) u a n
+      guard-reached n good w t =
+          let low = leb-true 1 n (both-left _ _ good) in
+          let high = leb-true n 256 (both-right (leb 1 n) _ good) in
+          let end = leb-true (a + n) (spaceAt (s .spaces) u .pages * 4096) t in
+          guarded s w u a n (v .guard) low (omega arith) (block-is (omega arith)) (λ over. beyond-is (omega arith))
+          ∙ ap (λ k. keyPermits s w k u a n) key-is
 
 -- Whatever slot was seen, the frames of what stands there are in scratch: a slot with no live space holds zeros.
 pub any-run : (s : State) (u : ℕ) (m : List ℕ) → sound s ≡ true → length m ≡ s .frames * 4096 → RunIn (spaceAt (s .spaces) u) m

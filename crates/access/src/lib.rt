@@ -45,7 +45,8 @@ pub fn fetch_seen(v: View, scratch: &[u8], register: u32, address: u32, buffer: 
         Translation::Refused(refusal) => return refusal,
         Translation::Reached { slot: _, right: _ } => {
             let x = v.space;
-            transfer::fetch_from(x, scratch, address, buffer)
+            let guard = v.guard;
+            transfer::fetch_from(x, guard, scratch, address, buffer)
         }
     }
 }
@@ -75,7 +76,8 @@ pub fn store_seen(v: View, scratch: &mut [u8], register: u32, address: u32, byte
         Translation::Refused(refusal) => return refusal,
         Translation::Reached { slot: _, right } => {
             let x = v.space;
-            transfer::store_to(x, right, scratch, address, bytes)
+            let guard = v.guard;
+            transfer::store_to(x, right, guard, scratch, address, bytes)
         }
     }
 }

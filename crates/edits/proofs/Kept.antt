@@ -4,6 +4,7 @@ use mathlib.Core.Bool.{Bool, true, false}
 use mathlib.Core.Path.{_≡_, refl, sym, ap, ap₂, _∙_}
 use Rattle.model.specs.declared.Answer.{Answer}
 use Rattle.model.specs.declared.Answer.the-variants.{BadCaller}
+use Rattle.model.specs.declared.Cell.{Cell}
 use Rattle.model.specs.declared.Entry.{Entry}
 use Rattle.model.specs.declared.Reply.{Reply}
 use Rattle.model.specs.declared.State.{State}
@@ -41,7 +42,15 @@ module _ (x : Edit) (f : Fits x) where
   unfolding Fits
   mode-inside k m e = rw e at f
 
-pub ruleset insides = (entry-inside, cpu-inside, register-inside, mode-inside)
+  pub key-inside : (k y : ℕ) → x ≡ edit.Key k y → k < 8
+  unfolding Fits
+  key-inside k y e = rw e at f
+
+  pub cell-inside : (k : ℕ) (y : Cell) → x ≡ edit.Cell k y → k < 512
+  unfolding Fits
+  cell-inside k y e = rw e at f
+
+pub ruleset insides = (entry-inside, cpu-inside, register-inside, mode-inside, key-inside, cell-inside)
 
 -- what the code has made by an edit that it has found to be y
 pub carried-by : (s t : State) (e : Edited) (y : Edit) → e .edit ≡ y → t ≡ applied s (changeOf y) → reply (e .answer) t ≡ reply (e .answer) (applied s (changeOf (e .edit)))

@@ -4,7 +4,7 @@ use mathlib.Core.Bool.{true}
 use mathlib.Core.Path.{_≡_}
 use Rattle.model.specs.declared.Caller.{Caller}
 use Rattle.model.specs.declared.Change.{Change}
-use Rattle.model.specs.declared.Change.the-variants.{Keep, SetPermit, SetEntry, SetRegister, SetMode}
+use Rattle.model.specs.declared.Change.the-variants.{Keep, SetPermit, SetEntry, SetRegister, SetMode, SetKey, SetCell}
 use Rattle.model.specs.declared.Operation.{Operation}
 use Rattle.model.specs.declared.State.{State}
 use Rattle.model.specs.Calls.{judge}
@@ -15,7 +15,7 @@ use Rattle.views.specs.declared.View.{View}
 use Rattle.views.specs.Asks.{asksBy}
 use Rattle.views.specs.Views.{viewOf}
 use Rattle.edits.specs.declared.Edit.{Edit}
-use Rattle.edits.specs.declared.Edit.the-variants.{Nothing, Permit, Entry, Register, Mode}
+use Rattle.edits.specs.declared.Edit.the-variants.{Nothing, Permit, Entry, Register, Mode, Key, Cell}
 use Rattle.edits.specs.declared.Edited.{Edited}
 
 unfoldable pub changeOf : Edit → Change
@@ -24,6 +24,8 @@ changeOf (Permit k p) = SetPermit k p
 changeOf (Entry k e) = SetEntry k e
 changeOf (Register k r v) = SetRegister k r v
 changeOf (Mode k m) = SetMode k m
+changeOf (Key k x) = SetKey k x
+changeOf (Cell f c) = SetCell f c
 
 -- the element stands in its table; every place of a byte's size is one of the permits
 unfoldable pub Fits : Edit → Type 0
@@ -32,6 +34,8 @@ Fits (Permit k p) = Unit {0}
 Fits (Entry k e) = k < 240
 Fits (Register k r v) = (k < 8) × (r < 16)
 Fits (Mode k m) = k < 8
+Fits (Key k x) = k < 8
+Fits (Cell f c) = f < 512
 
 -- it is what the model decides
 pub record Decides (e : Edited) (d : Decision) : Type 0 where

@@ -7,6 +7,7 @@ ghost use Rattle.model.specs.Replies.{reply};
 ghost use Rattle.edits.specs.declared.Edit.the-variants.{Nothing};
 ghost use Rattle.edits.specs.Edits.{Fits, changeOf};
 use model::Answer;
+use model::Cell;
 use model::Entry;
 use model::Permit;
 use model::Reply;
@@ -18,6 +19,8 @@ pub enum Edit {
     Entry { place: u8, entry: Entry },
     Register { cpu: u8, register: u8, value: u32 },
     Mode { cpu: u8, mode: bool },
+    Key { cpu: u8, key: u8 },
+    Cell { place: u16, cell: Cell },
 }
 
 pub struct Edited {
@@ -78,6 +81,17 @@ pub fn carried(mut s: State, e: Edited) -> Reply
             let mut c = s.cpus[k];
             c.mode = mode;
             s.cpus[k] = c;
+            Reply { answer, state: s }
+        }
+        Edit::Key { cpu, key } => {
+            let k = cpu as usize;
+            let mut c = s.cpus[k];
+            c.key = key;
+            s.cpus[k] = c;
+            Reply { answer, state: s }
+        }
+        Edit::Cell { place, cell } => {
+            s.cells[place as usize] = cell;
             Reply { answer, state: s }
         }
     }

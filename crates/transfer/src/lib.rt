@@ -1,9 +1,10 @@
-// What follows translation: the checks 17 and 18, and the bytes moved.
+// What follows translation: the checks 17, 18 and 22, and the bytes moved.
 ghost use Prim.Native.Nat.{_≤_};
 ghost use mathlib.Core.Path.{_≡_};
 ghost use lib.ListN.{length};
 ghost use Rattle.transfer.specs.Transferred.{RunIn, inside, placeIn, fetchAnswer, fetched, storeAnswer, stored};
 ghost use Rattle.model.specs.Calls.{writes as writesBy};
+use keys::Guard;
 use model::Answer;
 use model::Right;
 use model::Space;
@@ -34,13 +35,16 @@ fn writes(r: Right) -> bool
 }
 
 // A fetch from the space that was reached.
-pub fn fetch_from(x: Space, scratch: &[u8], address: u32, buffer: &mut [u8]) -> Answer
+pub fn fetch_from(x: Space, guard: Guard, scratch: &[u8], address: u32, buffer: &mut [u8]) -> Answer
     requires { ⌜ (length (now buffer) ≤ 256) × (RunIn x (now scratch)) ⌝ }
-    ensures { λ r. ⌜ r ≡ fetchAnswer x address (length (now (buffer .entry))) ⌝ }
-    ensures { λ _. ⌜ now (buffer .exit) ≡ fetched x address (now (scratch .entry)) (now (buffer .entry)) ⌝ }
+    ensures { λ r. ⌜ r ≡ fetchAnswer x guard address (length (now (buffer .entry))) ⌝ }
+    ensures { λ _. ⌜ now (buffer .exit) ≡ fetched x guard address (now (scratch .entry)) (now (buffer .entry)) ⌝ }
 {
     if !fits(x, address, buffer.len()) {
         return Answer::Addressing;
+    }
+    if !keys::permits(guard, false, address, buffer.len()) {
+        return Answer::KeyProtection;
     }
     let place = place_of(x, address);
     moves::fill(buffer, &scratch[place..]);
@@ -48,16 +52,26 @@ pub fn fetch_from(x: Space, scratch: &[u8], address: u32, buffer: &mut [u8]) -> 
 }
 
 // A store to the space that was reached: the part of scratch from the address's place on is lent to the byte writer.
-pub fn store_to(x: Space, right: Right, scratch: &mut [u8], address: u32, bytes: &[u8]) -> Answer
+pub fn store_to(
+    x: Space,
+    right: Right,
+    guard: Guard,
+    scratch: &mut [u8],
+    address: u32,
+    bytes: &[u8],
+) -> Answer
     requires { ⌜ (length (now bytes) ≤ 256) × (RunIn x (now scratch)) ⌝ }
-    ensures { λ r. ⌜ r ≡ storeAnswer x right address (length (now (bytes .entry))) ⌝ }
-    ensures { λ _. ⌜ now (scratch .exit) ≡ stored x right address (now (scratch .entry)) (now (bytes .entry)) ⌝ }
+    ensures { λ r. ⌜ r ≡ storeAnswer x right guard address (length (now (bytes .entry))) ⌝ }
+    ensures { λ _. ⌜ now (scratch .exit) ≡ stored x right guard address (now (scratch .entry)) (now (bytes .entry)) ⌝ }
 {
     if !fits(x, address, bytes.len()) {
         return Answer::Addressing;
     }
     if !writes(right) {
         return Answer::Protection;
+    }
+    if !keys::permits(guard, true, address, bytes.len()) {
+        return Answer::KeyProtection;
     }
     let place = place_of(x, address);
     moves::put(&mut scratch[place..], bytes);

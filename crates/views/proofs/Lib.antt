@@ -5,3 +5,4 @@ pub mod Judged
 pub mod Looked
 pub mod Lists
 pub mod Added
+pub mod Cells

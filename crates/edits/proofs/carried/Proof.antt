@@ -23,6 +23,15 @@ element-copy-out-c-2 c = search insides
 element-set-from-c : tie.Need-element-set-from-c
 element-set-from-c c = search insides
 
+element-copy-out-c-3 : tie.Need-element-copy-out-c-3
+element-copy-out-c-3 c = search insides
+
+element-set-from-c-2 : tie.Need-element-set-from-c-2
+element-set-from-c-2 c = search insides
+
+element-set-from-cell : tie.Need-element-set-from-cell
+element-set-from-cell c = search insides
+
 returns : tie.Need-returns
 unfolding changeOf
 returns c = search carried-by
@@ -42,6 +51,14 @@ returns-4 c = search carried-by
 returns-5 : tie.Need-returns-5
 unfolding changeOf
 returns-5 c = search carried-by
+
+returns-6 : tie.Need-returns-6
+unfolding changeOf
+returns-6 c = search carried-by
+
+returns-7 : tie.Need-returns-7
+unfolding changeOf
+returns-7 c = search carried-by
 
 pub carried-spec : {M : Type 1} → statement M
 carried-spec =
@@ -70,8 +87,20 @@ carried-spec =
     element-copy-out-c-2
     (λ c. search needs)
     element-set-from-c
+    (λ c. search needs)
+    (λ c. search needs)
+    (λ c. search needs)
+    element-copy-out-c-3
+    (λ c. search needs)
+    element-set-from-c-2
+    (λ c. search needs)
+    (λ c. search needs)
+    (λ c. search needs)
+    element-set-from-cell
     returns
     returns-2
     returns-3
     returns-4
-    returns-5)
+    returns-5
+    returns-6
+    returns-7)
