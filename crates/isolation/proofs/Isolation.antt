@@ -1,4 +1,4 @@
--- The paper's own claim of the first half, as an instance of the general one. Assumes nothing.
+-- The paper's own claim of the first half, as an instance of the general one; and what it says of keys. Assumes nothing.
 use Prim.Native.Nat.{ℕ}
 use mathlib.Core.Bool.{Bool}
 use mathlib.Core.List.{List, [], _∷_}
@@ -8,11 +8,13 @@ use lib.Dec.{eqb}
 use borrow.Author.Tests.{eqb-true, eqb-false, eq-eqb, ne-eqb}
 use Rattle.lists.proofs.Bytes.{get-agree}
 use Rattle.model.specs.declared.State.{State}
+use Rattle.model.specs.Calls.{accessKey}
 use Rattle.model.specs.Frames.{layout, placeOf, sizeOf, bytesOf}
 use Rattle.model.specs.Sound.{Live, Sound}
-use Rattle.model.specs.Step.{Machine, Issue, step, run}
+use Rattle.model.specs.Step.{Machine, Issue, Outcome, step, run}
 use Rattle.model.specs.Tables.{spaceAt}
 use Rattle.model.proofs.SpaceBytes.{apart}
+use Rattle.isolation.specs.KeysAgree.{AllSameKeys, KeysAgree}
 use Rattle.isolation.specs.TwoRuns.{EqualOutside, Alike, Turn, Varied, SameCall, SameRuns, OutsideSpace, StoresVaried, SameOutside, AllSameOutside, Isolation}
 use Rattle.isolation.proofs.TwoRuns.{two-runs}
 
@@ -73,3 +75,20 @@ isolation s scratch₁ scratch₂ u first second ready live outside varied =
     let m₂ : Machine = record { tables = s; scratch = scratch₂ } in
     let alike : Alike (just x) m₁ m₂ = record { tables = refl; room = outside .room; bytes = outside-equal s (ready .sound) u scratch₁ scratch₂ live outside } in
     all-same x first second m₁ m₂ varied (two-runs (just x) (turns x first second) m₁ m₂ ready alike (turns-varied x m₁ first second varied))
+
+-- Keys are in the tables, and the tables are equal.
+all-same-keys : (x : ℕ) (is : List Issue) (os ps : List Outcome) (m : Machine) → AllSameOutside x m is os ps → AllSameKeys os ps
+unfolding AllSameOutside AllSameKeys
+all-same-keys x [] [] [] m a = tt
+all-same-keys x [] [] (p ∷ ps) m a = a
+all-same-keys x [] (o ∷ os) ps m a = absurd a
+all-same-keys x (i ∷ is) [] ps m a = absurd a
+all-same-keys x (i ∷ is) (o ∷ os) [] m a = a
+all-same-keys x (i ∷ is) (o ∷ os) (p ∷ ps) m a = (
+  record { cells = ap (λ (t : State). t .cells) (a .0 .tables); access = λ c. ap (λ (t : State). accessKey t c) (a .0 .tables) },
+  all-same-keys x is os ps (o .machine) (a .1),
+)
+
+pub keys-agree : KeysAgree
+keys-agree s scratch₁ scratch₂ u first second ready live outside varied =
+    all-same-keys _ first _ _ _ (isolation s scratch₁ scratch₂ u first second ready live outside varied)

@@ -15,7 +15,7 @@ use Rattle.model.specs.declared.Caller.{Caller}
 use Rattle.model.specs.declared.Cpu.{Cpu}
 use Rattle.model.specs.declared.Entry.{Entry}
 use Rattle.model.specs.declared.Operation.{Operation}
-use Rattle.model.specs.declared.Operation.the-variants.{Enrol, Create, Destroy, Permit, Isolate, Query, Add, Remove, Load, Mode, Fetch, Store, Reset}
+use Rattle.model.specs.declared.Operation.the-variants.{Enrol, Create, Destroy, Permit, Isolate, Query, Add, Remove, Load, Mode, Fetch, Store, Reset, Key, Block}
 use Rattle.model.specs.declared.Space.{Space}
 use Rattle.model.specs.declared.State.{State}
 use Rattle.model.specs.Answers.{number, value}
@@ -39,7 +39,7 @@ use Rattle.isolation.specs.History.{Event, Deed, nothing, deedDone, deed
 use Rattle.isolation.specs.Recall.{ownerBy, ownerIn, homeBy, homeIn, grantBy, grantIn, tokenBy, tokenIn, modeBy, modeIn, loadBy, loadIn}
 use Rattle.isolation.proofs.Record.{Memory, memory, told, Remembers, Rightful, Proper, Recorded, gives-unused}
 use Rattle.isolation.proofs.RecordMade.{enrol-told, create-told}
-use Rattle.isolation.proofs.RecordSet.{load-told, mode-told, permit-told, add-told, remove-told}
+use Rattle.isolation.proofs.RecordSet.{load-told, mode-told, key-told, block-told, permit-told, add-told, remove-told}
 use Rattle.isolation.proofs.RecordWithdrawn.{destroy-told, isolate-told, reset-told}
 
 module _ (s : State) (m : Memory) (ok : Sound s) (rem : Remembers s m) (c : Caller) where
@@ -60,6 +60,8 @@ module _ (s : State) (m : Memory) (ok : Sound s) (rem : Remembers s m) (c : Call
   performed-told (Fetch register address) n d e fit p = rw (p .is) rem
   performed-told (Store register address) n d e fit p = rw (p .is) rem
   performed-told Reset n d e fit p = reset-told s m ok rem (c .guest) d (enrolled-guest (s .guests) (c .guest) e) p
+  performed-told (Key key) n d e fit p = key-told s m ok rem c key d (enrolled-guest (s .guests) (c .guest) e) p
+  performed-told (Block id address key mark) n d e fit p = block-told s m ok rem (c .guest) id address key mark d p
 
   -- a space that is found has the owner that the memory knows, and that is not 0
   owner-found : (i : ℕ) → slotOf (s .spaces) i < 32 → (m .owner i ≢ 0) × (m .owner i ≡ spaceAt (s .spaces) (slotOf (s .spaces) i) .owner)
@@ -88,6 +90,8 @@ module _ (s : State) (m : Memory) (ok : Sound s) (rem : Remembers s m) (c : Call
   performed-rightful (Fetch register address) n d e p = tt
   performed-rightful (Store register address) n d e p = tt
   performed-rightful Reset n d e p = tt
+  performed-rightful (Key key) n d e p = tt
+  performed-rightful (Block id address key mark) n d e p = tt
 
 -- one more event, by its deed
 one-more : (s : State) (e : Event) (h : List Event) (d : Deed) → deed e ≡ d → Proper h → Remembers s (told d (memory h)) → Rightful (memory h) d → Recorded s (e ∷ h)

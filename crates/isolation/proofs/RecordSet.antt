@@ -1,5 +1,5 @@
--- LOAD, MODE, PERMIT, ADD and REMOVE: one CPU block, one permit or one entry is set, and the memory follows it.
--- Assumes nothing.
+-- LOAD, MODE, KEY, PERMIT, ADD, REMOVE and BLOCK: one CPU block, one permit, one entry or one cell is set, and the memory follows
+-- it. Assumes nothing.
 use Prim.Native.Nat.{ℕ, _-_, _≤_, _<_}
 use mathlib.Core.Bool.{Bool, true, false}
 use mathlib.Core.Logic.{_≢_}
@@ -23,7 +23,7 @@ use Rattle.model.specs.declared.State.{State}
 use Rattle.model.specs.Answers.{value}
 use Rattle.model.specs.Changes.{raised, released}
 use Rattle.model.specs.Decision.{Decision, after}
-use Rattle.model.specs.Granted.{Permitted, Added, Removed, Loaded, ModeSet, addedEntry}
+use Rattle.model.specs.Granted.{Permitted, Added, Removed, Loaded, ModeSet, KeySet, Blocked, addedEntry}
 use Rattle.model.specs.Searches.{enrolled, slotOf}
 use Rattle.model.specs.Sound.{Live, IsGuest, IsEntry, Sound}
 use Rattle.model.specs.Tables.{noCpu, noPermit, unusedEntry, spaceAt, guestAt, cpuAt, cpuPlace, permitPlace, grantAt, entryPlace, entryAt, withCpus, withEntries}
@@ -32,7 +32,7 @@ use Rattle.model.proofs.Entries.{same-guest, same-permit, same-entry, released-
 use Rattle.model.proofs.Runs.{lowest-entry}
 use Rattle.model.proofs.Searches.{enrolled-guest, slot-found}
 use Rattle.model.proofs.Tokens.{formed, token-number, token-sequence, assigned-sequence, added-entry}
-use Rattle.isolation.specs.History.{loaded, switched, permitted, added, removed}
+use Rattle.isolation.specs.History.{nothing, loaded, switched, permitted, added, removed}
 use Rattle.isolation.specs.Recall.{Given, space, unassigned, sameCaller, ownerBy, homeBy, grantBy, tokenBy, modeBy, loadBy}
 use Rattle.isolation.proofs.Record.{Memory, told, standingGives, entryGives, Remembers, gives-unused, gives-other, gives-standing, same-pair, other-pair, id-slot}
 
@@ -80,6 +80,27 @@ module _ (s : State) (m : Memory) (ok : Sound s) (rem : Remembers s m) where
       rw (done .is)
       (cpu-told c _ (λ a. choose (sameCaller c a) (eqb k 1) (m .mode a)) (m .load) i (yes! _ _ (eq-eqb (c .guest) _ refl))
       (λ a n. no! _ _ (ne-eqb (c .guest) (a .guest) (λ e. n (sym e)))) (λ q l. rem .loads c q i l) (λ _ _ _. refl))
+
+  -- KEY keeps registers and mode, and the memory has no keys
+  pub key-told : (c : Caller) (k : ℕ) (d : Decision) → IsGuest (c .guest) → KeySet c k d → Remembers (after s d) (told nothing m)
+  unfolding ownerBy homeBy grantBy tokenBy modeBy loadBy
+  key-told c k d i done =
+      rw (done .is)
+      (cpu-told c _ (m .mode) (m .load) i (rem .modes c i) (λ _ _. refl) (λ q l. rem .loads c q i l) (λ _ _ _. refl))
+
+  -- BLOCK sets one cell, and the memory has no cells
+  pub block-told : (g i a k x : ℕ) (d : Decision) → Blocked s g i a k x d → Remembers (after s d) (told nothing m)
+  unfolding ownerBy homeBy grantBy tokenBy modeBy loadBy
+  block-told g i a k x d done = rw (done .is) (record {
+    owners = rem .owners;
+    homes = rem .homes;
+    grants = rem .grants;
+    unowned = rem .unowned;
+    unpermitted = rem .unpermitted;
+    tokens = rem .tokens;
+    modes = rem .modes;
+    loads = rem .loads;
+  })
 
   -- PERMIT raises one permit, that of guest h for the slot of the space i. No other slot has that identification.
   pub permit-told : (g i h : ℕ) (r : Right) (d : Decision) → IsGuest h → Permitted s g i h r d → Remembers (after s d) (told (permitted g i h r) m)

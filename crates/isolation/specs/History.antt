@@ -5,7 +5,7 @@ use mathlib.Core.List.{List, [], _∷_}
 use Rattle.model.specs.declared.Call.{Call}
 use Rattle.model.specs.declared.Caller.{Caller}
 use Rattle.model.specs.declared.Operation.{Operation}
-use Rattle.model.specs.declared.Operation.the-variants.{Enrol, Create, Destroy, Permit, Isolate, Query, Add, Remove, Load, Mode, Fetch, Store, Reset}
+use Rattle.model.specs.declared.Operation.the-variants.{Enrol, Create, Destroy, Permit, Isolate, Query, Add, Remove, Load, Mode, Fetch, Store, Reset, Key, Block}
 use Rattle.model.specs.declared.Right.{Right}
 use Rattle.model.specs.Answers.{number, value}
 use Rattle.model.specs.Step.{Machine, Issue, step}
@@ -51,6 +51,8 @@ deedDone c (Mode m) v = switched c m
 deedDone c (Fetch register address) v = nothing
 deedDone c (Store register address) v = nothing
 deedDone c Reset v = reset (c .guest)
+deedDone c (Key key) v = nothing
+deedDone c (Block id address key mark) v = nothing
 
 -- a call with any other answer has done nothing
 unfoldable pub deedOf : Call → (number value : ℕ) → Deed

@@ -4,6 +4,8 @@
 pub mod Reaches
 -- First half: two runs of one list that differ in one space
 pub mod TwoRuns
+-- The first half, said of keys (paper 02, M-100)
+pub mod KeysAgree
 -- Second half: the ground that earlier calls give for each fetch or store
 pub mod History
 pub mod Recall
