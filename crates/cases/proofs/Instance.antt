@@ -1,7 +1,6 @@
 -- The instance of specs/Instance: it is sound, its calls return what is listed, and the theorem of two runs speaks of it.
 -- Assumes nothing.
 use Prim.Native.Nat.{ℕ}
-use mathlib.Core.Bool.{true}
 use mathlib.Core.List.{List, [], _∷_}
 use mathlib.Core.Logic.{_≢_, inr}
 use mathlib.Core.Path.{_≡_, refl, sym, ap, ap₂, _∙_}
@@ -11,21 +10,25 @@ use lib.Seq.{getD-set-same, getD-set-other}
 use Rattle.lists.specs.Bytes.{put, get}
 use Rattle.model.specs.declared.Right.the-variants.{Write}
 use Rattle.model.specs.Answers.{number}
-use Rattle.model.specs.Sound.{Live}
-use Rattle.model.specs.SoundTest.{sound}
+use Rattle.model.specs.Sound.{Live, Sound}
 use Rattle.model.specs.Step.{Machine, Ready, Issue, Outcome, step, run, clearFrame, clearFrames, scratchAfter, bufferAfter}
 use Rattle.model.proofs.Clearing.{clear-on}
-use Rattle.model.proofs.SoundTest.{sound-decides}
 use Rattle.cases.specs.Instance.{start, holding, zeros, altered, look, change, others, calls, first, second, Result, results, listed}
 use Rattle.isolation.specs.Reaches.{Reaches}
 use Rattle.isolation.specs.TwoRuns.{OutsideSpace, StoresVaried, AllSameOutside}
-use Rattle.cases.proofs.Decisions.{decisions}
+use Rattle.cases.proofs.Decisions.{decisions, tests}
 use Rattle.cases.proofs.InstanceRun.{runWith, step-with, run-with}
+use Rattle.cases.proofs.Starts.{tablesTest, sound-blank}
 use Rattle.isolation.proofs.Isolation.{isolation}
 
-pub sound-start : sound start ≡ true
-unfolding start decisions
-sound-start = refl
+pub sound-start : Sound start
+unfolding start tablesTest tests
+sound-start = sound-blank start refl refl
+
+-- with any scratch of its length it is ready
+ready-with : (z : List ℕ) → length z ≡ 16384 → Ready (holding z)
+unfolding start
+ready-with z room = record { sound = sound-start; room = room }
 
 -- The two bytes at the start of frame 2; scratch after the store, and what it and the clearing leave there.
 abbrev pair : List ℕ → List ℕ
@@ -45,11 +48,11 @@ pair-cleared z = ap₂ (λ (x y : ℕ). x ∷ y ∷ []) (clear-on 2 z 8192 refl)
 
 -- what is computed of a run, and what follows
 abbrev Computed : (scratch : List ℕ) (a b : ℕ) → Type 0
-Computed z a b = results (runWith 16384 (holding z) (calls (a ∷ b ∷ []))) ≡ listed (pair z) (a ∷ b ∷ []) (pair (stored z a b)) (pair (clearFrame 2 (stored z a b)))
+Computed z a b = results (runWith (holding z) (calls (a ∷ b ∷ []))) ≡ listed (pair z) (a ∷ b ∷ []) (pair (stored z a b)) (pair (clearFrame 2 (stored z a b)))
 
 returns : (z : List ℕ) (a b : ℕ) → length z ≡ 16384 → Computed z a b → results (run (holding z) (calls (a ∷ b ∷ []))) ≡ listed (pair z) (a ∷ b ∷ []) (a ∷ b ∷ []) (0 ∷ 0 ∷ [])
 returns z a b room c =
-    ap results (run-with 16384 (calls (a ∷ b ∷ [])) (holding z) room)
+    ap results (run-with (calls (a ∷ b ∷ [])) (holding z) (ready-with z room))
     ∙ c
     ∙ ap₂ (listed (pair z) (a ∷ b ∷ [])) (pair-stored z a b room) (pair-cleared (stored z a b))
 
@@ -90,8 +93,7 @@ second-run = returns altered 3 4 long-altered computed-second ∙ ap (λ x. list
 
 -- The premises of `Isolation`.
 pub ready-start : Ready (holding zeros)
-unfolding start
-ready-start = record { sound = sound-decides start .to sound-start; room = long }
+ready-start = ready-with zeros long
 
 pub live-shared : Live (start .spaces) 2
 unfolding start
@@ -107,11 +109,11 @@ outside = record {
 -- the fetch leaves all as it was, and the store through register 1 reaches space 3
 look-leaves : step (holding zeros) look .machine ≡ holding zeros
 unfolding start decisions scratchAfter
-look-leaves = ap (λ (o : Outcome). o .machine) (step-with 16384 (holding zeros) look long)
+look-leaves = ap (λ (o : Outcome). o .machine) (step-with (holding zeros) look ready-start)
 
 change-done : number (step (holding zeros) (change (1 ∷ 2 ∷ [])) .answer) ≡ 0
 unfolding start decisions
-change-done = ap (λ (o : Outcome). number (o .answer)) (step-with 16384 (holding zeros) (change (1 ∷ 2 ∷ [])) long)
+change-done = ap (λ (o : Outcome). number (o .answer)) (step-with (holding zeros) (change (1 ∷ 2 ∷ [])) ready-start)
 
 pub change-reaches : Reaches (holding zeros) (change (1 ∷ 2 ∷ [])) 3
 unfolding start decisions

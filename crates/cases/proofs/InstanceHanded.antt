@@ -13,7 +13,7 @@ use Rattle.isolation.specs.TwoRuns.{StoresVaried}
 use Rattle.isolation.proofs.Kept.{run-kept, unseen}
 use Rattle.cases.specs.Instance.{start, holding, zeros, altered, question, asking}
 use Rattle.cases.proofs.Decisions.{decisions}
-use Rattle.cases.proofs.Instance.{long, ready-start, live-shared, outside, change-reaches, same-calls}
+use Rattle.cases.proofs.Instance.{ready-start, live-shared, outside, change-reaches, same-calls}
 use Rattle.cases.proofs.InstanceRun.{runWith, run-with}
 
 varied : StoresVaried 3 (holding zeros) (asking (1 ∷ 2 ∷ [])) (asking (3 ∷ 4 ∷ []))
@@ -30,7 +30,7 @@ refused = record { answer = Limit OtherGuest 2; buffer = [] } ∷ []
 
 pub first-handed : handedTo 2 (asking (1 ∷ 2 ∷ [])) (run (holding zeros) (asking (1 ∷ 2 ∷ []))) ≡ refused
 unfolding start decisions runWith handedTo choose scratchAfter bufferAfter
-first-handed = ap (handedTo 2 (asking (1 ∷ 2 ∷ []))) (run-with 16384 (asking (1 ∷ 2 ∷ [])) (holding zeros) long)
+first-handed = ap (handedTo 2 (asking (1 ∷ 2 ∷ []))) (run-with (asking (1 ∷ 2 ∷ [])) (holding zeros) ready-start)
 
 pub second-handed : handedTo 2 (asking (3 ∷ 4 ∷ [])) (run (holding altered) (asking (3 ∷ 4 ∷ []))) ≡ refused
 unfolding start

@@ -34,14 +34,14 @@ ready-fresh = record { sound = sound-empty 8 (omega arith) (omega arith); room =
 
 -- the records
 abbrev Told : List Issue → List Event → Type 0
-Told is h = told [] is (runWith 32768 fresh is) ≡ h
+Told is h = told [] is (runWith fresh is) ≡ h
 
 computed : Told lines session × Told isolating (done 1 (Isolate 3) 0 ∷ session)
 unfolding decisions told runWith
 computed = (refl, refl)
 
 record-is : (is : List Issue) (h : List Event) → Told is h → recorded [] fresh is ≡ h
-record-is is h e = recorded-run is [] fresh ∙ ap (told [] is) (run-with 32768 is fresh long) ∙ e
+record-is is h e = recorded-run is [] fresh ∙ ap (told [] is) (run-with is fresh ready-fresh) ∙ e
 
 pub session-recorded : recorded [] fresh lines ≡ session
 session-recorded = record-is lines session (computed .0)
@@ -51,20 +51,19 @@ isolating-recorded = record-is isolating _ (computed .1)
 
 -- what the lines leave
 after : Machine
-after = leftBy fresh (runWith 32768 fresh lines)
+after = leftBy fresh (runWith fresh lines)
 
 is-after : afterRun fresh lines ≡ after
 unfolding after
-is-after = sym (left-run fresh lines) ∙ ap (leftBy fresh) (run-with 32768 lines fresh long)
+is-after = sym (left-run fresh lines) ∙ ap (leftBy fresh) (run-with lines fresh ready-fresh)
 
-room : length (after .scratch) ≡ 32768
-unfolding after decisions leftBy runWith
-room = (rw is-after at (ready-run lines fresh ready-fresh)) .room
+ready-after : Ready after
+ready-after = rw is-after at (ready-run lines fresh ready-fresh)
 
 pub session-reaches : Reaches (afterRun fresh lines) (fetch 2) 3
 unfolding after decisions leftBy runWith
 session-reaches = rw is-after (record {
-  done = ap (λ (o : Outcome). number (o .answer)) (step-with 32768 after (fetch 2) room);
+  done = ap (λ (o : Outcome). number (o .answer)) (step-with after (fetch 2) ready-after);
   register = 5;
   through = refl;
   slot = 2;

@@ -1,32 +1,35 @@
--- For concrete lists of calls: a run computes once the length of scratch is known, and then no byte of scratch is looked at.
--- The scratch must be a definition that stays shut: over a variable the same comparisons go past the step limit. Assumes
--- nothing.
-use Prim.Native.Nat.{ℕ}
+-- For concrete lists of calls: a run from a ready machine computes with check 1 left out, as every call finds what the one before it
+-- left in order, and then no byte of scratch is looked at. The scratch must be a definition that stays shut: over a variable the same
+-- comparisons go past the step limit. Assumes nothing.
 use mathlib.Core.List.{List, [], _∷_}
 use mathlib.Core.Path.{_≡_, refl, ap, ap₂, _∙_}
 use lib.ListN.{length}
 use Rattle.model.specs.Answers.{number, value}
-use Rattle.model.specs.Calls.{decide}
-use Rattle.model.specs.Step.{Machine, Issue, Outcome, decision, outcome, step, run}
-use Rattle.model.proofs.Sound.{length-scratchAfter}
+use Rattle.model.specs.Calls.{judge}
+use Rattle.model.specs.Step.{Machine, Ready, Issue, Outcome, outcome, step, run}
+use Rattle.model.proofs.Promise.{passed}
+use Rattle.model.proofs.Sound.{ready-of, ready-kept}
 use Rattle.isolation.specs.History.{Event, recorded}
 
--- a list of calls over scratch of `room` bytes
-unfoldable pub runWith : (room : ℕ) → Machine → List Issue → List Outcome
-runWith n m [] = []
-runWith n m (i ∷ is) = let o : Outcome = outcome m i (decide (m .tables) n (i .call) (length (i .buffer))) in o ∷ runWith n (o .machine) is
+-- a call where check 1 passes
+abbrev pub stepWith : Machine → Issue → Outcome
+stepWith m i = outcome m i (judge (m .tables) (i .call) (length (i .buffer)))
 
-pub step-with : (n : ℕ) (m : Machine) (i : Issue) → length (m .scratch) ≡ n → step m i ≡ outcome m i (decide (m .tables) n (i .call) (length (i .buffer)))
+-- a list of such calls
+unfoldable pub runWith : Machine → List Issue → List Outcome
+runWith m [] = []
+runWith m (i ∷ is) = let o : Outcome = stepWith m i in o ∷ runWith (o .machine) is
+
+pub step-with : (m : Machine) (i : Issue) → Ready m → step m i ≡ stepWith m i
 unfolding step
-step-with n m i e = ap (λ k. outcome m i (decide (m .tables) k (i .call) (length (i .buffer)))) e
+step-with m i r = ap (outcome m i) (passed (m .tables) (i .call) (m .scratch) (i .buffer) (ready-of m r))
 
-pub run-with : (n : ℕ) (is : List Issue) (m : Machine) → length (m .scratch) ≡ n → run m is ≡ runWith n m is
-unfolding run runWith step
-run-with n [] m e = refl
-run-with n (i ∷ is) m e =
-    ap₂ _∷_ (step-with n m i e)
-    (run-with n is (step m i .machine) (length-scratchAfter _ (decision m i .effect) (m .scratch) (i .buffer) ∙ e)
-    ∙ ap (λ (o : Outcome). runWith n (o .machine) is) (step-with n m i e))
+pub run-with : (is : List Issue) (m : Machine) → Ready m → run m is ≡ runWith m is
+unfolding run runWith
+run-with [] m r = refl
+run-with (i ∷ is) m r =
+    ap₂ _∷_ (step-with m i r)
+    (run-with is (step m i .machine) (ready-kept m i r) ∙ ap (λ (o : Outcome). runWith (o .machine) is) (step-with m i r))
 
 -- the record of a run, by what its calls returned
 unfoldable pub told : List Event → List Issue → List Outcome → List Event

@@ -1,4 +1,5 @@
 pub mod Decisions
+pub mod Starts
 pub mod Cases
 pub mod InstanceRun
 pub mod Instance

@@ -1,5 +1,6 @@
--- Paper 01, "Both sides of each edge": the cases marked P, and the case of the free frames, as one table. A case is a start
--- state and calls with what each must answer; each goes through the whole decision, check 1 included.
+-- Paper 01, "Both sides of each edge": the cases marked P, and the case of the free frames; and cases of paper 02, M-100, "Storage
+-- keys on each block". All are one table. A case is a start state and calls with what each must answer; each goes through the whole
+-- decision, check 1 included.
 use Prim.Native.Nat.{ℕ, _*_}
 use mathlib.Core.Bool.{Bool, true}
 use mathlib.Core.List.{List, [], _∷_}
@@ -8,7 +9,7 @@ use lib.Dec.{eqb}
 use Rattle.lists.specs.Choice.{both}
 use Rattle.model.specs.declared.Call.{Call}
 use Rattle.model.specs.declared.Operation.{Operation}
-use Rattle.model.specs.declared.Operation.the-variants.{Enrol, Create, Add, Remove, Load, Mode, Fetch, Store}
+use Rattle.model.specs.declared.Operation.the-variants.{Enrol, Create, Destroy, Add, Remove, Load, Mode, Fetch, Store, Reset, Key, Block}
 use Rattle.model.specs.declared.Right.the-variants.{Read, Write}
 use Rattle.model.specs.declared.Standing.the-variants.{Valid}
 use Rattle.model.specs.declared.State.{State}
@@ -40,13 +41,17 @@ passes s (t ∷ ts) =
     let d = decide s (s .frames * 4096) (byFirst (t .operation)) (t .room) in
     both (both (eqb (number (d .answer)) (t .answer)) (eqb (value (d .answer)) (t .value))) (passes (after s d) ts)
 
--- guest 1 enrols with one page and a list of L entries, adds its own space, and loads the token t into register 1
-abbrev pub holding : (list : ℕ) → Trial
-holding l = trial (Enrol (settingsOf 1 2 1 l 1)) 0 0 1
+-- a done call that has no value and lends no buffer
+abbrev pub done : Operation → Trial
+done o = trial o 0 0 0
 
+-- guest 1 enrols with so many pages and a list of L entries
+abbrev pub holding : (pages list : ℕ) → Trial
+holding p l = trial (Enrol (settingsOf p 2 1 l 1)) 0 0 1
+
+-- with one page it adds its own space with read, and loads the token t into register 1
 abbrev pub withToken : (list token : ℕ) → List Trial → List Trial
-withToken l t more =
-    holding l ∷ trial (Add 1 Read) 0 0 2 ∷ trial (Mode 1) 0 0 0 ∷ trial (Load 1 t) 0 0 0 ∷ more
+withToken l t more = holding 1 l ∷ trial (Add 1 Read) 0 0 2 ∷ done (Mode 1) ∷ done (Load 1 t) ∷ more
 
 -- "name" is the number of the eight bytes of A and seven blanks
 abbrev pub nameA : ℕ
@@ -77,6 +82,7 @@ case s ts = record { start = s; trials = ts }
 
 unfoldable pub cases : List Case
 cases =
+    -- Paper 01.
     -- P1 token 2, first ADD in a list: accepted
     case (emptyTables 8 1) (withToken 4 2 (trial (Fetch 1 0) 1 0 0 ∷ []))
     -- P2 token 1: 14
@@ -99,6 +105,25 @@ cases =
     ∷ case (emptyTables 8 1) (withToken 4 2 (trial (Store 1 4096) 1 17 0 ∷ trial (Store 1 4095) 1 18 0 ∷ []))
     -- "Free frames 0 and 2 of 3: two pages refused with 10, one page placed at 0"
     ∷ case gapTables (trial (Create nameA 2) 0 10 0 ∷ trial (Create nameA 1) 0 0 2 ∷ [])
+    -- Paper 02, M-100. Register 0 gives the primary space, with write; a new space has key 0, mark off.
+    -- "a store is allowed if the access key is 0 or equals the block's; a fetch also if the mark is off": key 5 against 0, then 5
+    ∷ case (emptyTables 8 1) (holding 1 4 ∷ done (Key 5) ∷ trial (Store 0 0) 1 22 0 ∷ trial (Fetch 0 0) 1 0 0 ∷ done (Block 1 0 5 0) ∷ trial (Store 0 0) 1 0 0 ∷ [])
+    -- mark on, block key 3: a fetch with key 0, 5 and 3
+    ∷ case (emptyTables 8 1) (holding 1 4 ∷ done (Block 1 0 3 1) ∷ trial (Fetch 0 0) 1 0 0 ∷ done (Key 5) ∷ trial (Fetch 0 0) 1 22 0 ∷ done (Key 3) ∷ trial (Fetch 0 0) 1 0 0 ∷ [])
+    -- "22, key protection, in FETCH and STORE after 18": out of range 17, through a read entry 18, else 22
+    ∷ case (emptyTables 8 1) (withToken 4 2 (done (Key 5) ∷ trial (Store 0 4096) 1 17 0 ∷ trial (Store 1 4095) 1 18 0 ∷ trial (Store 0 4095) 1 22 0 ∷ []))
+    -- "An access across several blocks needs all of them to allow it": of two the first alone does, then both do
+    ∷ case (emptyTables 8 1)
+    (holding 2 4 ∷ done (Block 1 0 5 0) ∷ done (Key 5) ∷ trial (Store 0 4095) 1 0 0 ∷ trial (Store 0 4095) 2 22 0 ∷ done (Block 1 4096 5 0) ∷ trial (Store 0 4095) 2 0 0 ∷ [])
+    -- "all keys are 0 to 15"; "BLOCK then 5, 6, 17": no space 2, an address past the end, the last address
+    ∷ case (emptyTables 8 1)
+    (holding 1 4 ∷ trial (Key 16) 0 3 0 ∷ trial (Block 1 0 16 0) 0 3 0 ∷ trial (Block 2 4096 15 1) 0 5 0 ∷ trial (Block 1 4096 15 1) 0 17 0 ∷ done (Block 1 4095 15 1) ∷ done (Key 15) ∷ [])
+    -- "kept by RESET": the access key still refuses
+    ∷ case (emptyTables 8 1) (holding 1 4 ∷ done (Key 5) ∷ done Reset ∷ trial (Store 0 0) 1 22 0 ∷ [])
+    -- "New spaces .. have key 0, mark off", in frames that had a mark too
+    ∷ case (emptyTables 8 1)
+    (withToken 4 3
+    (trial (Create nameA 1) 0 0 2 ∷ done (Block 2 0 3 1) ∷ done (Destroy 2) ∷ trial (Create nameA 1) 0 0 3 ∷ trial (Add 3 Read) 0 0 3 ∷ done (Key 5) ∷ trial (Fetch 1 0) 1 0 0 ∷ []))
     ∷ []
 
 unfoldable pub allPass : List Case → Bool

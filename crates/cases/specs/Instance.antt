@@ -27,7 +27,7 @@ abbrev pub settings : (share : Bool) → Guest
 settings b = record { enrolled = true; allowance = 2; share = b; list = 4; asf = true }
 
 abbrev pub tokenTwo : Cpu
-tokenTwo = record { registers = set (replicate 16 0) 1 2; mode = true }
+tokenTwo = record { registers = set (replicate 16 0) 1 2; mode = true; key = 0 }
 
 abbrev pub space : (id owner name frame : ℕ) → Space
 space i g n f = record { id = i; owner = g; name = n; first = f; pages = 1 }
