@@ -1,4 +1,4 @@
--- What LOAD and MODE decide on what they have seen is what the model says. Assumes nothing.
+-- What LOAD, MODE and KEY decide on what they have seen is what the model says. Assumes nothing.
 use Prim.Native.Nat.{ℕ, _≤_, _<_}
 use mathlib.Core.Bool.{Bool, true, false, not}
 use mathlib.Core.Path.{_≡_, refl, ap, _∙_}
@@ -9,16 +9,16 @@ use Rattle.lists.specs.Choice.{implies}
 use Rattle.lists.proofs.Rules.{test-no, test-yes}
 use Rattle.model.specs.declared.Answer.the-variants.{Done, Limit, SpecialOperation}
 use Rattle.model.specs.declared.Caller.{Caller}
-use Rattle.model.specs.declared.Change.the-variants.{SetRegister, SetMode}
+use Rattle.model.specs.declared.Change.the-variants.{SetRegister, SetMode, SetKey}
 use Rattle.model.specs.declared.Guest.{Guest}
-use Rattle.model.specs.declared.Kind.the-variants.{Register as RegisterKind, Flag}
-use Rattle.model.specs.declared.Operation.the-variants.{Load, Mode}
+use Rattle.model.specs.declared.Kind.the-variants.{Register as RegisterKind, Flag, Key as KeyKind}
+use Rattle.model.specs.declared.Operation.the-variants.{Load, Mode, Key}
 use Rattle.model.specs.declared.State.{State}
 use Rattle.model.specs.Arguments.{arguments, checkAll}
-use Rattle.model.specs.Calls.{enrols, perform, load, mode}
+use Rattle.model.specs.Calls.{enrols, perform, load, mode, setKey}
 use Rattle.model.specs.Tables.{guestAt}
 use Rattle.model.proofs.Rules.{check-yes, check-no}
-use Rattle.edits.specs.declared.Edit.the-variants.{Nothing, Register, Mode as ModeEdit}
+use Rattle.edits.specs.declared.Edit.the-variants.{Nothing, Register, Mode as ModeEdit, Key as KeyEdit}
 use Rattle.edits.specs.declared.Edited.{Edited}
 use Rattle.edits.specs.Edits.{changeOf, Fits, Decided}
 use Rattle.edits.proofs.Kept.{decided-refused, decided-done}
@@ -63,3 +63,15 @@ module _ (v : View) (m : ℕ) (x : Edited) where
           decided-done v (Mode m) x _ _ p l
           (λ s c ok e. rw (judged-good s c (Mode m) 0 v refl e l ∙ check-yes _ _ (le-leb m 1 h) ∙ check-yes _ _ (test-yes b _ (asked s c e) n))
           (record { answer = refl; change = ap (λ k. SetMode k (eqb m 1)) (place-own s (c .guest) (Mode m) v e l) }))
+
+module _ (v : View) (k : ℕ) (x : Edited) (l : v .place < 8) where
+  pub key-limit : 15 < k → x ≡ record { answer = Limit KeyKind 2; edit = Nothing } → Decided v (Key k) x
+  unfolding enrols arguments checkAll perform
+  key-limit h p = decided-refused v (Key k) x _ p (λ s c ok e. judged-good s c (Key k) 0 v refl e l ∙ check-no _ _ (lt-leb k 15 h))
+
+  pub key-done : k ≤ 15 → x ≡ record { answer = Done 0; edit = KeyEdit (v .place) k } → Decided v (Key k) x
+  unfolding enrols arguments checkAll perform setKey changeOf Fits
+  key-done h p =
+      decided-done v (Key k) x _ _ p l
+      (λ s c ok e. rw (judged-good s c (Key k) 0 v refl e l ∙ check-yes _ _ (le-leb k 15 h))
+      (record { answer = refl; change = ap (λ i. SetKey i k) (place-own s (c .guest) (Key k) v e l) }))

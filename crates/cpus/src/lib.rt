@@ -1,4 +1,4 @@
-// LOAD and MODE: the registers and the mode of the caller's CPU. Each is decided on what it has seen of the tables, of any
+// LOAD, MODE and KEY: the registers, the mode and the access key of the caller's CPU. Each is decided on what it has seen of the tables, of any
 // state that it was seen in; and of a sound state that is handed over.
 ghost use mathlib.Core.Bool.{true};
 ghost use mathlib.Core.Path.{_≡_};
@@ -7,7 +7,7 @@ ghost use Rattle.lists.specs.Choice.{implies};
 ghost use Rattle.model.specs.Calls.{judge};
 ghost use Rattle.model.specs.Replies.{replied, callOf};
 ghost use Rattle.model.specs.SoundTest.{sound};
-ghost use Rattle.model.specs.declared.Operation.the-variants.{Load, Mode};
+ghost use Rattle.model.specs.declared.Operation.the-variants.{Load, Mode, Key};
 ghost use Rattle.edits.specs.Edits.{Decided};
 use edits::Edit;
 use edits::Edited;
@@ -89,4 +89,32 @@ pub fn mode(s: State, caller: Caller, mode: u32) -> Reply
     let operation = Operation::Mode { mode };
     let v = views::seen_in(s, views::asked_by(Call { caller, operation }));
     edits::carried(s, decide_mode(v, mode))
+}
+
+pub fn decide_key(v: View, key: u32) -> Edited
+    ensures { λ r. ⌜ Decided v (Key key) r ⌝ }
+{
+    let at = v.place;
+    if 8 <= at {
+        return edits::refused(Answer::BadCaller);
+    }
+    if 15 < key {
+        return edits::refused(Answer::Limit {
+            kind: Kind::Key,
+            place: 2,
+        });
+    }
+    edits::done(Edit::Key {
+        cpu: at as u8,
+        key: key as u8,
+    })
+}
+
+pub fn key(s: State, caller: Caller, key: u32) -> Reply
+    requires { ⌜ sound s ≡ true ⌝ }
+    ensures { λ r. ⌜ r ≡ replied s (judge s (callOf caller (Key key)) 0) ⌝ }
+{
+    let operation = Operation::Key { key };
+    let v = views::seen_in(s, views::asked_by(Call { caller, operation }));
+    edits::carried(s, decide_key(v, key))
 }
