@@ -8,7 +8,7 @@ use lib.Dec.{leb, ltb, eqb}
 use lib.ListN.{getD}
 use borrow.Author.Tests.{ltb-true, le-ltb, lt-ltb, eq-eqb, ne-eqb}
 use Rattle.lists.specs.Choice.{both, either}
-use Rattle.lists.proofs.Choice.{both-intro, both-left, both-no, both-not, choose-elim, either-left, either-none, either-right, not-of, true-or-false}
+use Rattle.lists.proofs.Choice.{both-intro, both-left, both-no, both-not, either-left, either-none, either-right, not-of, true-or-false}
 use Rattle.lists.proofs.Rules.{not-yes, not-no, test-no, test-yes}
 use Rattle.model.specs.declared.Answer.{Answer}
 use Rattle.model.specs.declared.Answer.the-variants.{Done, BadCaller, Limit, NoSpace, NoSharing, NotPermitted, ListFull, AletSpecification, AlenTranslation}
@@ -27,7 +27,7 @@ use Rattle.model.specs.declared.Space.{Space}
 use Rattle.model.specs.declared.Standing.the-variants.{Valid}
 use Rattle.model.specs.declared.State.{State}
 use Rattle.model.specs.Arguments.{goodOther, arguments, checkAll}
-use Rattle.model.specs.Calls.{judge, enrols, perform, owning, permit, isolate, query, add, remove, entitled}
+use Rattle.model.specs.Calls.{judge, enrols, perform, permit, isolate, query, add, remove, entitled}
 use Rattle.model.specs.Changes.{allows, raised, released, applied}
 use Rattle.model.specs.Decision.{Decision, refuse, check, done}
 use Rattle.model.specs.Names.{goodName}
@@ -42,9 +42,8 @@ use Rattle.model.proofs.Tokens.{formed}
 use Rattle.entries.specs.Assigned.{assignedTo}
 use Rattle.lookup.specs.declared.Owned.{Owned}
 use Rattle.lookup.specs.declared.Owned.the-variants.{At, Refused}
-use Rattle.lookup.specs.Owned.{ownedAt, ownedSpace}
+use Rattle.lookup.specs.Owned.{ownedAt}
 use Rattle.lookup.specs.Rows.{rowOf}
-use Rattle.lookup.proofs.Owning.{owned-row, owned-slot, owning-passes, owning-stops}
 use Rattle.lookup.proofs.Rows.{enrolled-row}
 use Rattle.edits.specs.declared.Edit.the-variants.{Nothing, Permit as PermitEdit, Entry as EntryEdit}
 use Rattle.edits.specs.declared.Edited.{Edited}
@@ -58,8 +57,9 @@ use Rattle.views.specs.declared.View.{View}
 use Rattle.views.specs.Asks.{asksBy, tokenBy}
 use Rattle.views.specs.Views.{viewOf}
 use Rattle.views.proofs.Judged.{asks-caller, judged-bad, judged-good, place-own, row-own, seen-caller, seen-enrolled, seen-guest}
-use Rattle.views.proofs.Looked.{space-row, space-slot, permit-slot, permit-finds, isolate-finds, query-finds, permit-other}
-use Rattle.views.proofs.Added.{add-finds, add-free, add-unused}
+use Rattle.views.proofs.Looked.{space-slot, permit-slot, permit-finds, isolate-finds, add-finds, query-finds, permit-other}
+use Rattle.views.proofs.Seeking.{Shows, Seeks, slot-low, stops, slot-is, goes-on}
+use Rattle.views.proofs.Added.{add-free, add-unused}
 
 -- whether a call may have the space that it has seen, where the permit is its caller's
 entitled-seen : (s : State) (g : ℕ) (o : Operation) (v : View) (e : v ≡ viewOf s (asksBy g o)) → asksBy g o .other ≡ g → v .place < 8 → v .slot < 32 → (r : Right)
@@ -80,50 +80,11 @@ below-both k n m h = ⊎-elim yes-below (λ f. both-not (ltb k m) _ f ∙ sym f)
 
 -- the slot of a space that a guest owns, and the places of its permits, fit a byte
 module _ (u k g : ℕ) (x : Space) (o : Owned) (is : o ≡ ownedAt k x g) (e : o ≡ At u) where
-  Small : Owned → Type 0
-  Small (At w) = w < 32
-  Small (Refused a) = Unit {0}
-
-  small : Small (ownedAt k x g)
-  unfolding ownedAt Small
-  small = choose-elim Small (ltb k 32) _ _ (λ h. choose-elim Small (eqb (x .owner) g) _ _ (λ _. ltb-true k 32 h) (λ _. tt)) (λ _. tt)
-
-  slot-low : u < 32
-  unfolding Small
-  slot-low = subst Small (sym is ∙ e) small
-
   pub slot-byte : u * 8 < 256
-  slot-byte = omega (arith, slot-low)
+  slot-byte = omega (arith, slot-low u k g x o is e)
 
   pub permit-byte : (to : ℕ) → to < 8 → u * 8 + to < 256
-  permit-byte to l = omega (arith, slot-low)
-
--- what the call k of a caller sees of a state
-abbrev Shows : View → Operation → State → Caller → Type 0
-Shows v k s c = v ≡ viewOf s (asksBy (c .guest) k)
-
--- The checks 5 and 6, for any call that seeks the space of an identification.
-module _ (v : View) (k : Operation) (i : ℕ) (l : v .place < 8) (o : Owned) (is : o ≡ ownedAt (v .slot) (v .space) (v .place + 1)) where
-  -- it finds the slot, and these checks come before what else it decides
-  record Seeks (d : State → Caller → Decision) : Type 0 where
-    finds : (s : State) (c : Caller) → Shows v k s c → v .slot ≡ slotOf (s .spaces) i
-    judged : (s : State) (c : Caller) → Shows v k s c → judge s (callOf c k) 0 ≡ owning s (c .guest) (slotOf (s .spaces) i) (d s c)
-
-  module _ (d : State → Caller → Decision) (f : Seeks d) where
-    owned-is : (s : State) (c : Caller) → Shows v k s c → o ≡ ownedSpace (s .spaces) (c .guest) i
-    owned-is s c e =
-        owned-row (s .spaces) (v .slot) (slotOf (s .spaces) i) (c .guest) o (f .finds s c e)
-        (is ∙ ap₂ (ownedAt (v .slot)) (space-row s (asksBy (c .guest) k) v e) (seen-caller s (c .guest) k v e l))
-
-    stops : (a : Answer) → o ≡ Refused a → (s : State) (c : Caller) → Shows v k s c → judge s (callOf c k) 0 ≡ refuse a
-    stops a q s c e = f .judged s c e ∙ owning-stops s (c .guest) i o (owned-is s c e) _ a q
-
-    module _ (u : ℕ) (q : o ≡ At u) where
-      slot-is : (s : State) (c : Caller) → Shows v k s c → u ≡ slotOf (s .spaces) i
-      slot-is s c e = owned-slot (s .spaces) (c .guest) i o u (owned-is s c e) q
-
-      goes-on : (s : State) (c : Caller) → Shows v k s c → judge s (callOf c k) 0 ≡ d s c
-      goes-on s c e = f .judged s c e ∙ owning-passes s (c .guest) i o (owned-is s c e) _ u q
+  permit-byte to l = omega (arith, slot-low u k g x o is e)
 
 -- PERMIT
 module _ (v : View) (i h : ℕ) (r : Right) (x : Edited) (l : v .place < 8) where
@@ -157,7 +118,7 @@ module _ (v : View) (i h : ℕ) (r : Right) (x : Edited) (l : v .place < 8) wher
     permit-seeks : Seeks v (Permit i h r) i l o is shared
     unfolding enrols arguments checkAll perform permit shared
     permit-seeks = record {
-      finds = λ s c e. permit-finds s (c .guest) i h r v e;
+      finds = λ s c e. permit-finds s (c .guest) i v h r e;
       judged = λ s c e. judged-good s c (Permit i h r) 0 v refl e l ∙ check-yes _ _ (other-good s c e);
     }
 
@@ -183,7 +144,7 @@ module _ (v : View) (i h : ℕ) (r : Right) (x : Edited) (l : v .place < 8) wher
       grant-is : (s : State) (c : Caller) → Shows v (Permit i h r) s c → v .permit .grant ≡ grantAt (s .permits) (slotOf (s .spaces) i) h
       unfolding asksBy
       grant-is s c e =
-          let found = permit-finds s (c .guest) i h r v e in
+          let found = permit-finds s (c .guest) i v h r e in
           let low : v .slot < 32 = omega (arith, found, its-slot s c e, slot-low u (v .slot) (v .place + 1) (v .space) o is q) in
           ap (λ (z : PermitRow). z .grant) (permit-slot s (asksBy (c .guest) (Permit i h r)) v e low)
           ∙ ap₂ (λ k j. getD (s .permits) (k * 8 + j) noPermit .grant) found (enrolled-row (s .guests) h (v .other) (permit-other s (c .guest) i h r v e) m)
@@ -304,18 +265,18 @@ module _ (v : View) (i : ℕ) (r : Right) (x : Edited) (l : v .place < 8) where
   pub add-none : 32 ≤ v .slot → x ≡ record { answer = NoSpace; edit = Nothing } → Decided v (Add i r) x
   unfolding add
   add-none q p =
-      decided-refused v (Add i r) x _ p (λ s c ok e. judged-add s c e ∙ check-no _ _ (rw (← add-finds s (c .guest) i r v e) (le-ltb (v .slot) 32 q)))
+      decided-refused v (Add i r) x _ p (λ s c ok e. judged-add s c e ∙ check-no _ _ (rw (← add-finds s (c .guest) i v r e) (le-ltb (v .slot) 32 q)))
 
   module _ (low : v .slot < 32) (t : Bool) (ts : t ≡ either (eqb (v .space .owner) (v .place + 1)) (allows (v .permit .grant) r)) where
     slot-found : (s : State) (c : Caller) → v ≡ viewOf s (asksBy (c .guest) (Add i r)) → ltb (slotOf (s .spaces) i) 32 ≡ true
-    slot-found s c e = rw (← add-finds s (c .guest) i r v e) (lt-ltb (v .slot) 32 low)
+    slot-found s c e = rw (← add-finds s (c .guest) i v r e) (lt-ltb (v .slot) 32 low)
 
     may-add : (s : State) (c : Caller) → v ≡ viewOf s (asksBy (c .guest) (Add i r)) → t ≡ entitled s (c .guest) (slotOf (s .spaces) i) r
     unfolding asksBy
     may-add s c e =
         ts
         ∙ entitled-seen s (c .guest) (Add i r) v e refl l low r
-        ∙ ap (λ u. entitled s (c .guest) u r) (add-finds s (c .guest) i r v e)
+        ∙ ap (λ u. entitled s (c .guest) u r) (add-finds s (c .guest) i v r e)
 
     pub add-not : not t ≡ true → x ≡ record { answer = NotPermitted; edit = Nothing } → Decided v (Add i r) x
     unfolding add
@@ -364,7 +325,7 @@ module _ (v : View) (i : ℕ) (r : Right) (x : Edited) (l : v .place < 8) where
             (record {
               answer = ap₂ (λ a n. Done (a * 65536 + (n + 2))) q k;
               change = ap₂ (λ a (n : Entry). SetEntry a n) place
-                  (ap₂ (λ u a. record { standing = Valid u r; sequence = a }) (add-finds s (c .guest) i r v e) q);
+                  (ap₂ (λ u a. record { standing = Valid u r; sequence = a }) (add-finds s (c .guest) i v r e) q);
             }))
 
 -- REMOVE

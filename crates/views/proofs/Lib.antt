@@ -6,3 +6,4 @@ pub mod Looked
 pub mod Lists
 pub mod Added
 pub mod Cells
+pub mod Seeking

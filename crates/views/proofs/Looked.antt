@@ -10,7 +10,8 @@ use Rattle.lookup.specs.Rows.{rowOf, slotRow}
 use Rattle.lookup.proofs.Rows.{row-place}
 use Rattle.model.specs.declared.Right.{Right}
 use Rattle.model.specs.declared.State.{State}
-use Rattle.model.specs.declared.Operation.the-variants.{Permit, Query}
+use Rattle.model.specs.declared.Operation.{Operation}
+use Rattle.model.specs.declared.Operation.the-variants.{Permit, Isolate, Query, Add, Block}
 use Rattle.model.specs.Leaves.{callerPlace}
 use Rattle.model.specs.Searches.{slotOf, slotNamed}
 use Rattle.model.specs.Tables.{noPermit, spaceAt}
@@ -43,9 +44,29 @@ module _ (s : State) (a : Asks) (v : View) (e : v ≡ viewOf s a) where
       permit-row = rw e refl
 
 -- by identification, for every call that names its space so; and by owner and name
-pub id-finds : (s : State) (a : Asks) (i : ℕ) (v : View) → a .uses ≡ Token 0 → a .sought ≡ Id i → v ≡ viewOf s a → v .slot ≡ slotOf (s .spaces) i
+id-finds : (s : State) (a : Asks) (i : ℕ) (v : View) → a .uses ≡ Token 0 → a .sought ≡ Id i → v ≡ viewOf s a → v .slot ≡ slotOf (s .spaces) i
 unfolding viewOf searchUsing searchBy foundBy choose soughtBy slotOf lowest
 id-finds s a i v plain named e = ap (λ (x : View). x .slot) e ∙ rw (plain, named) refl
+
+module _ (s : State) (g i : ℕ) (v : View) where
+  abbrev Finds : Operation → Type 0
+  Finds k = v ≡ viewOf s (asksBy g k) → v .slot ≡ slotOf (s .spaces) i
+
+  pub permit-finds : (h : ℕ) (r : Right) → Finds (Permit i h r)
+  unfolding asksBy
+  permit-finds h r e = id-finds s _ i v refl refl e
+
+  pub isolate-finds : Finds (Isolate i)
+  unfolding asksBy
+  isolate-finds e = id-finds s _ i v refl refl e
+
+  pub add-finds : (r : Right) → Finds (Add i r)
+  unfolding asksBy
+  add-finds r e = id-finds s _ i v refl refl e
+
+  pub block-finds : (a k m : ℕ) → Finds (Block i a k m)
+  unfolding asksBy
+  block-finds a k m e = id-finds s _ i v refl refl e
 
 pub query-finds : (s : State) (g o n : ℕ) (v : View) → v ≡ viewOf s (asksBy g (Query o n)) → v .slot ≡ slotNamed (s .spaces) o n
 unfolding viewOf asksBy searchUsing searchBy foundBy choose soughtBy slotNamed lowest
