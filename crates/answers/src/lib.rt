@@ -30,6 +30,7 @@ pub fn number(a: Answer) -> u32
         Answer::SpecialOperation => 19,
         Answer::PrimarySpace => 20,
         Answer::LineNotRead => 21,
+        Answer::KeyProtection => 22,
     }
 }
 

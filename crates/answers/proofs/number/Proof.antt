@@ -93,10 +93,15 @@ returns-22 : tie.Need-returns-22
 unfolding number
 returns-22 c = sym (ap number (c .enum-told22 .given .1))
 
+returns-23 : tie.Need-returns-23
+unfolding number
+returns-23 c = sym (ap number (c .enum-told23 .given .1))
+
 pub number-spec : {M : Type 1} → statement M
 number-spec =
     tie.close
     (tie.spec
+    (λ c. search needs)
     (λ c. search needs)
     (λ c. search needs)
     (λ c. search needs)
@@ -140,4 +145,5 @@ number-spec =
     returns-19
     returns-20
     returns-21
-    returns-22)
+    returns-22
+    returns-23)
