@@ -17,7 +17,7 @@ use model::Right;
 use model::Settings;
 
 // How many names a line may begin with.
-const CALLS: usize = 14;
+const CALLS: usize = 16;
 
 // The most fields that follow a name.
 const MOST_FIELDS: usize = 6;
@@ -41,6 +41,8 @@ fn call_names() -> [u64; CALLS]
         0x14645544348, // FETCH
         0x153544f5245, // STORE
         0x15245534554, // RESET
+        0x14b4559, // KEY
+        0x1424c4f434b, // BLOCK
     ]
 }
 
@@ -63,6 +65,8 @@ fn call_shape(place: usize) -> u64
         11 => 0o1111,
         12 => 0o4111,
         13 => 0o1,
+        14 => 0o11,
+        15 => 0o11111,
         _ => 0,
     }
 }
@@ -195,6 +199,17 @@ fn make(place: usize, v: [u64; MOST_FIELDS]) -> Request
             d,
         ),
         13 => asked(a, Operation::Reset, 0),
+        14 => asked(a, Operation::Key { key: b }, 0),
+        15 => asked(
+            a,
+            Operation::Block {
+                id: b,
+                address: c,
+                key: d,
+                mark: e,
+            },
+            0,
+        ),
         _ => Request::NotRead,
     }
 }

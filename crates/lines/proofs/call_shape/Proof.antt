@@ -51,8 +51,14 @@ returns-14 : tie.Need-returns-14
 returns-14 c = shaped _ 13 _ (omega arith) (unfold forms shapeOf kindNumber in refl)
 
 returns-15 : tie.Need-returns-15
+returns-15 c = shaped _ 14 _ (omega arith) (unfold forms shapeOf kindNumber in refl)
+
+returns-16 : tie.Need-returns-16
+returns-16 c = shaped _ 15 _ (omega arith) (unfold forms shapeOf kindNumber in refl)
+
+returns-17 : tie.Need-returns-17
 unfolding forms NoneBelow
-returns-15 c = shaped-none _ (c .match .rest)
+returns-17 c = shaped-none _ (c .match .rest)
 
 pub call-shape-spec : {M : Type 1} → statement M
-call-shape-spec = tie.close (tie.spec returns returns-2 returns-3 returns-4 returns-5 returns-6 returns-7 returns-8 returns-9 returns-10 returns-11 returns-12 returns-13 returns-14 returns-15)
+call-shape-spec = tie.close (tie.spec returns returns-2 returns-3 returns-4 returns-5 returns-6 returns-7 returns-8 returns-9 returns-10 returns-11 returns-12 returns-13 returns-14 returns-15 returns-16 returns-17)

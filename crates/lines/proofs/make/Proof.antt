@@ -51,8 +51,14 @@ returns-14 : tie.Need-returns-14
 returns-14 c = made _ 13 _ _ (omega arith) (unfold forms lowered low madeBy in rw (c .asked13 .ensures))
 
 returns-15 : tie.Need-returns-15
+returns-15 c = made _ 14 _ _ (omega arith) (unfold forms lowered low madeBy in rw (c .asked14 .ensures))
+
+returns-16 : tie.Need-returns-16
+returns-16 c = made _ 15 _ _ (omega arith) (unfold forms lowered low madeBy in rw (c .asked15 .ensures))
+
+returns-17 : tie.Need-returns-17
 unfolding forms NoneBelow
-returns-15 c = made-none _ _ (c .match .rest)
+returns-17 c = made-none _ _ (c .match .rest)
 
 pub make-spec : {M : Type 1} → statement M
 make-spec =
@@ -85,6 +91,8 @@ make-spec =
     (λ c κs. search needs)
     (λ c κs. search needs)
     (λ c κs. search needs)
+    (λ c κs. search needs)
+    (λ c κs. search needs)
     returns
     returns-2
     returns-3
@@ -99,4 +107,6 @@ make-spec =
     returns-12
     returns-13
     returns-14
-    returns-15)
+    returns-15
+    returns-16
+    returns-17)
