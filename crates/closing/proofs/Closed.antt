@@ -1,5 +1,5 @@
--- One space withdrawn: what the loops over ranges have made of the permits and of the entries is what the model says. Assumes
--- nothing.
+-- One space withdrawn: what the loops over ranges have made of the permits, of the entries and of the cells is what the model
+-- says. Assumes nothing.
 use Prim.Native.Nat.{ℕ, _+_, _-_, _*_, _/_, _≤_, _<_}
 use mathlib.Core.Bool.{false, not}
 use mathlib.Core.List.{List}
@@ -13,24 +13,22 @@ use Rattle.lists.specs.Choice.{choose, both}
 use Rattle.lists.specs.Places.{mapPlaces}
 use Rattle.lists.proofs.Choice.{true-false, yes!, no!, both-left, both-intro, both-comm, both-yes, both-not, choose-elim}
 use Rattle.lists.proofs.Maps.{mapBelow, map-alike}
+use Rattle.model.specs.declared.Cell.{Cell}
 use Rattle.model.specs.declared.Entry.{Entry}
 use Rattle.model.specs.declared.Permit.{Permit}
-use Rattle.model.specs.Changes.{revoked, listOwner, permitSlot, unpermitted, revokedAll}
-use Rattle.model.specs.Tables.{noPermit, unusedEntry}
+use Rattle.model.specs.Changes.{revoked, listOwner, permitSlot, unpermitted, blanked, revokedAll}
+use Rattle.model.specs.Tables.{noPermit, unusedEntry, noCell}
 use Rattle.model.proofs.Reset.{standing-stays}
 use Rattle.losses.specs.Looks.{keptList}
+use Rattle.closing.specs.Run.{inRun}
 use Rattle.closing.specs.Slot.{losesSlot}
 use Rattle.closing.proofs.Ranges.{map-map, mapRange, before, inside, beyond, Ranged, range-start, range-go, range-length}
+use Rattle.closing.proofs.Runs.{run-put, slot-run}
 
 -- The eight permits of a slot go.
 permits-gone : (ps : List Permit) (u k : ℕ) → k ≡ u * 8 + 8 → mapRange (λ p. noPermit) (u * 8) k ps ≡ unpermitted (eqb u) ps
-unfolding mapRange mapBelow unpermitted
-permits-gone ps u k e = map-alike _ _ ps (λ j p b. go j p (decLe (u * 8) j) (decLe k j))
-  where
-    go : (j : ℕ) (p : Permit) → Dec (u * 8 ≤ j) → Dec (k ≤ j) → choose (ltb j k) (choose (ltb j (u * 8)) p noPermit) p ≡ choose (eqb u (permitSlot j)) noPermit p
-    go j p (no l) d = before (λ p. noPermit) (u * 8) k j p (omega arith) ∙ sym (no! _ _ (ne-eqb u (j / 8) (λ z. omega arith)))
-    go j p (yes l) (no m) = inside (λ p. noPermit) (u * 8) k j p l (omega arith) ∙ sym (yes! _ _ (eq-eqb u (j / 8) (omega arith)))
-    go j p (yes l) (yes m) = beyond (λ p. noPermit) (u * 8) k j p m ∙ sym (no! _ _ (ne-eqb u (j / 8) (λ z. omega arith)))
+unfolding unpermitted
+permits-gone ps u k e = run-put noPermit (u * 8) 8 k ps e ∙ map-alike _ _ ps (λ j p _. ap (λ t. choose t noPermit p) (slot-run u j))
 
 -- The entries of all lists but one change.
 lists-but : (f : Entry → Entry) (es : List Entry) (kept m n : ℕ) → length es ≡ 240 → m ≡ kept * 30 → 240 ≤ n
@@ -94,14 +92,22 @@ pub entries-go : (u : ℕ) (es t : List Entry) (i k : ℕ) (e : Entry) → Range
     → Ranged (revoked (eqb u)) i (k + 1) es (set t k e)
 entries-go u es t i k e r q len h = range-go (revoked (eqb u)) i k es t e unusedEntry r q (omega arith)
 
+pub cells-go : (cs t : List Cell) (i n f : ℕ) (c : Cell) → Ranged (λ c. noCell) i f cs t → c ≡ noCell → length cs ≡ 512 → i + n ≤ 512 → f < i + n
+    → Ranged (λ c. noCell) i (f + 1) cs (set t f c)
+cells-go cs t i n f c r e len room h = range-go (λ c. noCell) i f cs t c noCell r e (omega arith)
+
 pub entry-inside : (list k : ℕ) → list ≤ 8 → k < list * 30 → k < 240
 entry-inside list k h l = omega arith
 
-pub ruleset turns = (range-start, range-length, permits-go, entries-go, entry-inside)
+pub ruleset turns = (range-start, range-length, permits-go, entries-go, cells-go, entry-inside)
 
 -- For search: the loops have ended.
 pub permits-done : (ps t : List Permit) (u k : ℕ) → Ranged (λ p. noPermit) (u * 8) k ps t → k ≤ u * 8 + 8 → u * 8 + 8 ≤ k → t ≡ unpermitted (eqb u) ps
 permits-done ps t u k r l h = r .same ∙ permits-gone ps u k (omega arith)
+
+pub cells-done : (cs t : List Cell) (i n f : ℕ) → Ranged (λ c. noCell) i f cs t → f ≤ i + n → i + n ≤ f → t ≡ blanked (inRun i n) cs
+unfolding blanked
+cells-done cs t i n f r l h = r .same ∙ run-put noCell i n f cs (omega arith)
 
 pub entries-done : (es a b : List Entry) (g list u m n : ℕ) → length es ≡ 240 → list ≡ keptList g → Ranged (revoked (eqb u)) 0 m es a → m ≤ list * 30 → list * 30 ≤ m
     → Ranged (revoked (eqb u)) (list * 30 + 30) n a b → 240 ≤ n → b ≡ revokedAll (losesSlot g u) es

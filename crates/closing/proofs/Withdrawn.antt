@@ -1,6 +1,6 @@
 -- The tables with one space withdrawn, as the model says: isolated, where its owner keeps its entries, or destroyed, where no guest
 -- does. Assumes nothing.
-use Prim.Native.Nat.{ℕ, _/_, _+_, _≤_}
+use Prim.Native.Nat.{ℕ, _/_, _+_, _≤_, _<_}
 use mathlib.Core.Bool.{Bool, true, false, not}
 use mathlib.Core.List.{List}
 use mathlib.Core.Path.{_≡_, refl, sym, ap, fun-ext, _∙_}
@@ -14,14 +14,18 @@ use Rattle.lists.specs.Choice.{choose, both, either}
 use Rattle.lists.specs.Places.{mapPlaces}
 use Rattle.lists.proofs.Choice.{no!, both-when, both-comm, both-yes}
 use Rattle.lists.proofs.Maps.{map-alike, map-nothing, map-one}
+use Rattle.model.specs.declared.Cell.{Cell}
 use Rattle.model.specs.declared.Change.the-variants.{DestroySpace, IsolateSpace}
 use Rattle.model.specs.declared.Entry.{Entry}
 use Rattle.model.specs.declared.Permit.{Permit}
 use Rattle.model.specs.declared.Space.{Space}
 use Rattle.model.specs.declared.State.{State}
-use Rattle.model.specs.Changes.{revoked, vacated, unpermitted, loses, revokedAll, withdrawn, applied}
-use Rattle.model.specs.Tables.{noSpace, spaceAt, withSpaces, withPermits, withEntries}
+use Rattle.model.specs.Changes.{revoked, vacated, unpermitted, loses, revokedAll, blanked, withdrawn, applied}
+use Rattle.model.specs.Tables.{noSpace, spaceAt, withSpaces, withPermits, withEntries, withCells}
+use Rattle.model.proofs.Withdraw.{none-freed}
+use Rattle.closing.specs.Run.{inRun}
 use Rattle.closing.specs.Slot.{losesSlot, slotClosed}
+use Rattle.closing.proofs.Freed.{freed-run}
 
 absorbed : (a b : Bool) → either a (both a b) ≡ a
 unfolding either both
@@ -58,17 +62,21 @@ module _ (ss : List Space) (u : ℕ) where
 module _ (s : State) (u : ℕ) where
   pub isolated : slotClosed s (spaceAt (s .spaces) u .owner) u ≡ applied s (IsolateSpace u)
   unfolding withdrawn
-  isolated = rw (owner-keeps (s .spaces) u, ← none-vacated (s .spaces) u)
+  isolated = rw (owner-keeps (s .spaces) u, ← none-vacated (s .spaces) u, none-freed (s .spaces) (s .spaces) (s .cells))
 
-  pub destroyed : slotClosed (withSpaces s (set (s .spaces) u noSpace)) 0 u ≡ applied s (DestroySpace u)
+  -- the frames of the space that stood in the slot are blank
+  abbrev freed-cells : List Cell
+  freed-cells = blanked (inRun (spaceAt (s .spaces) u .first) (spaceAt (s .spaces) u .pages)) (s .cells)
+
+  pub destroyed : u < 32 → withCells (slotClosed (withSpaces s (set (s .spaces) u noSpace)) 0 u) freed-cells ≡ applied s (DestroySpace u)
   unfolding withdrawn
-  destroyed = rw (all-revoked (s .spaces) u (s .entries), one-vacated (s .spaces) u)
+  destroyed low = rw (all-revoked (s .spaces) u (s .entries), one-vacated (s .spaces) u, freed-run (s .spaces) u low)
 
   -- for search: as the code has made it
   pub isolated-by : (t : State) (g : ℕ) (ps : List Permit) (es : List Entry) → g ≡ spaceAt (s .spaces) u .owner → ps ≡ unpermitted (eqb u) (s .permits) → es ≡ revokedAll (losesSlot g u) (s .entries)
       → t ≡ withEntries (withPermits s ps) es → t ≡ applied s (IsolateSpace u)
   isolated-by t g ps es q a b e = e ∙ rw (a, b, q) isolated
 
-  pub destroyed-by : (t : State) (x : Space) (ps : List Permit) (es : List Entry) → x ≡ noSpace → ps ≡ unpermitted (eqb u) (s .permits) → es ≡ revokedAll (losesSlot 0 u) (s .entries)
-      → t ≡ withEntries (withPermits (withSpaces s (set (s .spaces) u x)) ps) es → t ≡ applied s (DestroySpace u)
-  destroyed-by t x ps es a b c e = e ∙ rw (a, b, c) destroyed
+  pub destroyed-by : u < 32 → (t : State) (x : Space) (ps : List Permit) (es : List Entry) (cs : List Cell) → x ≡ noSpace → ps ≡ unpermitted (eqb u) (s .permits) → es ≡ revokedAll (losesSlot 0 u) (s .entries)
+      → cs ≡ freed-cells → t ≡ withCells (withEntries (withPermits (withSpaces s (set (s .spaces) u x)) ps) es) cs → t ≡ applied s (DestroySpace u)
+  destroyed-by low t x ps es cs a b c d e = e ∙ rw (a, b, c, d) (destroyed low)

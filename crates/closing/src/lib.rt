@@ -1,10 +1,13 @@
-// One space withdrawn: what becomes of the table of permits and of the table of entries. The loops go over places that are known
-// before they start, so that they are vectorised.
-ghost use Prim.Native.Nat.{_<_};
+// One space withdrawn: what becomes of the table of permits, of the table of entries and of the table of cells. The loops go over
+// places that are known before they start, so that they are vectorised.
+ghost use Prim.Native.Nat.{_+_, _≤_, _<_};
 ghost use mathlib.Core.Path.{_≡_};
 ghost use lib.Dec.{eqb};
-ghost use Rattle.model.specs.Changes.{unpermitted, revokedAll};
+ghost use Rattle.model.specs.Changes.{unpermitted, revokedAll, blanked};
+ghost use Rattle.model.specs.Sizes.{maxFrames};
+ghost use Rattle.closing.specs.Run.{inRun};
 ghost use Rattle.closing.specs.Slot.{losesSlot};
+use model::Cell;
 use model::Entry;
 use model::Permit;
 
@@ -36,4 +39,16 @@ pub fn entries_without(mut entries: [Entry; 240], kept: u8, slot: u8) -> [Entry;
         entries[k] = losses::entry_without(e, slot);
     }
     entries
+}
+
+// The frames of a run lose their keys and marks.
+pub fn cells_without(mut cells: [Cell; 512], first: u16, pages: u16) -> [Cell; 512]
+    requires { ⌜ first + pages ≤ maxFrames ⌝ }
+    ensures { λ r. ⌜ r ≡ blanked (inRun first pages) cells ⌝ }
+{
+    let i = first as usize;
+    for f in i..i + pages as usize {
+        cells[f] = losses::no_cell();
+    }
+    cells
 }

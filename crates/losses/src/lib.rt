@@ -1,11 +1,12 @@
-// Withdrawing, element by element: what becomes of one slot, one permit and one entry.
+// Withdrawing, element by element: what becomes of one slot, one permit, one entry and one cell.
 ghost use Prim.Native.Nat.{_≤_, _<_};
 ghost use mathlib.Core.Path.{_≡_};
 ghost use lib.Dec.{eqb};
 ghost use Rattle.lists.specs.Choice.{choose};
 ghost use Rattle.model.specs.Changes.{released, revoked};
-ghost use Rattle.model.specs.Tables.{noSpace, noPermit};
+ghost use Rattle.model.specs.Tables.{noSpace, noPermit, noCell};
 ghost use Rattle.losses.specs.Looks.{namedSlot, lookPlace, revokedEntry, keptList};
+use model::Cell;
 use model::Entry;
 use model::Grant;
 use model::Permit;
@@ -49,6 +50,16 @@ pub fn permit_unless(p: Permit, closed: bool) -> Permit
         return no_permit();
     }
     p
+}
+
+// A frame without a key or a mark.
+pub fn no_cell() -> Cell
+    ensures { λ r. ⌜ r ≡ noCell ⌝ }
+{
+    Cell {
+        key: 0,
+        mark: false,
+    }
 }
 
 // The slot that an entry names, and 32, which is no slot, where it names none.
