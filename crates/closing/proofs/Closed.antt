@@ -92,9 +92,8 @@ pub entries-go : (u : ℕ) (es t : List Entry) (i k : ℕ) (e : Entry) → Range
     → Ranged (revoked (eqb u)) i (k + 1) es (set t k e)
 entries-go u es t i k e r q len h = range-go (revoked (eqb u)) i k es t e unusedEntry r q (omega arith)
 
-pub cells-go : (cs t : List Cell) (i n f : ℕ) (c : Cell) → Ranged (λ c. noCell) i f cs t → c ≡ noCell → length cs ≡ 512 → i + n ≤ 512 → f < i + n
-    → Ranged (λ c. noCell) i (f + 1) cs (set t f c)
-cells-go cs t i n f c r e len room h = range-go (λ c. noCell) i f cs t c noCell r e (omega arith)
+pub cells-go : (cs t : List Cell) (i e f : ℕ) (c : Cell) → Ranged (λ c. noCell) i f cs t → c ≡ noCell → length cs ≡ 512 → e ≤ 512 → f < e → Ranged (λ c. noCell) i (f + 1) cs (set t f c)
+cells-go cs t i e f c r q len room h = range-go (λ c. noCell) i f cs t c noCell r q (omega arith)
 
 pub entry-inside : (list k : ℕ) → list ≤ 8 → k < list * 30 → k < 240
 entry-inside list k h l = omega arith

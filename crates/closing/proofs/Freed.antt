@@ -39,6 +39,10 @@ module _ (ss : List Space) (u : ℕ) where
   freed-run b = fun-ext (λ f.
       same-test (d-freed ss ss (eqb u) f) (d-has ss ss u f) (λ (v, _, (e, h)). rw (eqb-true u v e) h) (λ h. (u, b, (eq-eqb u u refl, h))) ∙ has-run f)
 
+-- for search
+pub run-inside : (ss : List Space) (u : ℕ) → RunsInside ss → spaceAt ss u .first + spaceAt ss u .pages ≤ maxFrames
+run-inside ss u r = r .inside u
+
 pub runs-inside : (s : State) → sound s ≡ true → RunsInside (s .spaces)
 unfolding frameOf
 runs-inside s e = record { inside = λ u. go u (decLe 1 (spaceAt (s .spaces) u .id)) }

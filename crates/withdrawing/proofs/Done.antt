@@ -6,6 +6,7 @@ use mathlib.Core.Path.{_≡_, refl, sym, ap, _∙_}
 use lib.Dec.{eqb}
 use Rattle.model.specs.declared.Answer.the-variants.{Done}
 use Rattle.model.specs.declared.Caller.{Caller}
+use Rattle.model.specs.declared.Cell.{Cell}
 use Rattle.model.specs.declared.Change.the-variants.{DestroySpace}
 use Rattle.model.specs.declared.Entry.{Entry}
 use Rattle.model.specs.declared.Operation.the-variants.{Destroy, Reset}
@@ -14,12 +15,12 @@ use Rattle.model.specs.declared.Space.{Space}
 use Rattle.model.specs.declared.State.{State}
 use Rattle.model.specs.Arguments.{arguments, checkAll}
 use Rattle.model.specs.Calls.{judge, enrols, perform, destroy, reset}
-use Rattle.model.specs.Changes.{vacated, unpermitted, applied}
+use Rattle.model.specs.Changes.{vacated, unpermitted, freed, blanked, applied}
 use Rattle.model.specs.Leaves.{callerPlace, flag}
 use Rattle.model.specs.Names.{baseName}
 use Rattle.model.specs.Replies.{reply, replied, callOf}
 use Rattle.model.specs.Searches.{slotOf, isOwned, isData}
-use Rattle.model.specs.Tables.{spaceAt, withSpaces, withPermits, withEntries}
+use Rattle.model.specs.Tables.{spaceAt, withSpaces, withPermits, withEntries, withCells}
 use Rattle.model.proofs.Rules.{go-on}
 use Rattle.lookup.specs.declared.Owned.{Owned}
 use Rattle.lookup.specs.declared.Owned.the-variants.{At}
@@ -42,8 +43,9 @@ module _ (s : State) (c : Caller) (at : ℕ) (e : at ≡ callerPlace (s .guests)
       (owning-yes s (c .guest) i o is _ _ u to
       (rw (← owned-slot (s .spaces) (c .guest) i o u is to) (go-on _ s _ _ _ (ap not (sym z ∙ n)) (ap (reply (Done 0)) w))))
 
-  pub reset-done : (l : List Bool) (x : List Space) (y : List Permit) (z : List Entry) → IsSet (slotsOf (isOwned (c .guest)) (s .spaces)) l
+  pub reset-done : (l : List Bool) (x : List Space) (y : List Permit) (z : List Entry) (w : List Cell) → IsSet (slotsOf (isOwned (c .guest)) (s .spaces)) l
       → x ≡ vacated (slotsOf (isData (c .guest)) (s .spaces)) (s .spaces) → y ≡ unpermitted (flag l) (s .permits) → z ≡ entriesReset (c .guest) (flag l) (s .entries)
-      → reply (Done 0) (withEntries (withPermits (withSpaces s x) y) z) ≡ replied s (judge s (callOf c Reset) 0)
+      → w ≡ blanked (freed (s .spaces) (s .spaces) (slotsOf (isData (c .guest)) (s .spaces))) (s .cells)
+      → reply (Done 0) (withCells (withEntries (withPermits (withSpaces s x) y) z) w) ≡ replied s (judge s (callOf c Reset) 0)
   unfolding enrols arguments checkAll perform reset replied
-  reset-done l x y z set p q r = good-caller _ s c Reset 0 at refl e low (ap (reply (Done 0)) (all-reset s (c .guest) l x y z set p q r))
+  reset-done l x y z w set p q r b = good-caller _ s c Reset 0 at refl e low (ap (reply (Done 0)) (all-reset s (c .guest) l x y z w set p q r b))

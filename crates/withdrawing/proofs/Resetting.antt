@@ -14,16 +14,17 @@ use Rattle.lists.specs.Places.{mapPlaces}
 use Rattle.lists.proofs.Choice.{choose-elim, choose-eq, both-right}
 use Rattle.lists.proofs.Maps.{mapBelow, length-mapPlaces, getD-mapPlaces, map-alike}
 use Rattle.lists.proofs.Rules.{map-go}
+use Rattle.model.specs.declared.Cell.{Cell}
 use Rattle.model.specs.declared.Entry.{Entry}
 use Rattle.model.specs.declared.Permit.{Permit}
 use Rattle.model.specs.declared.Space.{Space}
 use Rattle.model.specs.declared.Standing.{Standing}
 use Rattle.model.specs.declared.Standing.the-variants.{Unused, Valid, Revoked}
 use Rattle.model.specs.declared.State.{State}
-use Rattle.model.specs.Changes.{releasedFrom, released, revokedFrom, revoked, listOwner, releasedAll, vacated, unpermitted, loses, revokedAll, withdrawn, resetTables}
+use Rattle.model.specs.Changes.{releasedFrom, released, revokedFrom, revoked, listOwner, releasedAll, vacated, unpermitted, loses, revokedAll, freed, blanked, withdrawn, resetTables}
 use Rattle.model.specs.Leaves.{flag}
 use Rattle.model.specs.Searches.{isOwned, isData}
-use Rattle.model.specs.Tables.{noSpace, unusedEntry, spaceAt, live, withSpaces, withPermits, withEntries}
+use Rattle.model.specs.Tables.{noSpace, unusedEntry, spaceAt, live, withSpaces, withPermits, withEntries, withCells}
 use Rattle.closing.proofs.Ranges.{map-map}
 use Rattle.losses.specs.Looks.{namedSlot, lookPlace, revokedEntry}
 use Rattle.losses.proofs.Looks.{revoked-named}
@@ -107,8 +108,8 @@ module _ (s : State) (g : ℕ) where
       ∙ map-alike _ _ (s .entries) (λ k e b.
       choose-eq (eqb (listOwner k) g) (λ _. released-revoked _ e) (λ ne. ap (λ t. revoked t e) (others-lose (listOwner k) ne))))
 
-  pub all-reset : (l : List Bool) (x : List Space) (y : List Permit) (z : List Entry) → IsSet (slotsOf (isOwned g) (s .spaces)) l
+  pub all-reset : (l : List Bool) (x : List Space) (y : List Permit) (z : List Entry) (w : List Cell) → IsSet (slotsOf (isOwned g) (s .spaces)) l
       → x ≡ vacated (slotsOf (isData g) (s .spaces)) (s .spaces) → y ≡ unpermitted (flag l) (s .permits) → z ≡ entriesReset g (flag l) (s .entries)
-      → withEntries (withPermits (withSpaces s x) y) z ≡ resetTables s g
+      → w ≡ blanked (freed (s .spaces) (s .spaces) (slotsOf (isData g) (s .spaces))) (s .cells) → withCells (withEntries (withPermits (withSpaces s x) y) z) w ≡ resetTables s g
   unfolding resetTables withdrawn slotsOf closed
-  all-reset l x y z set p q r = rw (p, q, r, fun-ext (set .holds), all-entries)
+  all-reset l x y z w set p q r b = rw (p, q, r, b, fun-ext (set .holds), all-entries)

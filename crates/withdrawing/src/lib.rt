@@ -6,7 +6,7 @@ ghost use mathlib.Core.Bool.{true, false};
 ghost use mathlib.Core.Path.{_≡_};
 ghost use Rattle.lists.specs.Choice.{choose};
 ghost use Rattle.model.specs.Calls.{judge};
-ghost use Rattle.model.specs.Changes.{vacated, unpermitted, applied};
+ghost use Rattle.model.specs.Changes.{vacated, unpermitted, freed, blanked, applied};
 ghost use Rattle.model.specs.Leaves.{flag};
 ghost use Rattle.model.specs.Replies.{replied, callOf};
 ghost use Rattle.model.specs.Searches.{isOwned, isData};
@@ -14,26 +14,32 @@ ghost use Rattle.model.specs.SoundTest.{sound};
 ghost use Rattle.model.specs.Tables.{noSpace};
 ghost use Rattle.model.specs.declared.Change.the-variants.{DestroySpace};
 ghost use Rattle.model.specs.declared.Operation.the-variants.{Destroy, Reset};
+ghost use Rattle.closing.specs.Run.{RunsInside};
 ghost use Rattle.withdrawing.specs.Sets.{IsSet, slotsOf, entriesReset};
 use lookup::Owned;
 use model::Answer;
 use model::Caller;
+use model::Cell;
 use model::Entry;
 use model::Permit;
 use model::Reply;
 use model::Space;
 use model::State;
 
-// The tables without the space in a slot: the slot is empty, the space's permits are gone, and no guest keeps an entry for it.
+// The tables without the space in a slot: the slot is empty, the space's permits are gone, no guest keeps an entry for it, and its
+// frames lose their keys.
 fn destroy_at(mut s: State, slot: u8) -> State
-    requires { ⌜ slot < 32 ⌝ }
+    requires { ⌜ (slot < 32) × RunsInside (s .spaces) ⌝ }
     ensures { λ r. ⌜ r ≡ applied s (DestroySpace slot) ⌝ }
 {
+    let x = s.spaces[slot as usize];
     s.spaces[slot as usize] = losses::no_space();
     let permits = s.permits;
     s.permits = closing::permits_without(permits, slot);
     let entries = s.entries;
     s.entries = closing::entries_without(entries, 0, slot);
+    let cells = s.cells;
+    s.cells = closing::cells_without(cells, x.first, x.pages);
     s
 }
 
@@ -103,6 +109,31 @@ fn vacate(spaces: [Space; 32], guest: u32) -> [Space; 32]
     t
 }
 
+// How many frames of a space are freed where a guest is reset: all of a data space of the guest, of others none.
+fn freed_pages(x: Space, guest: u32) -> u16
+    ensures { λ r. ⌜ r ≡ choose (isData guest x) (x .pages) 0 ⌝ }
+{
+    if slots::is_data(x, guest) {
+        return x.pages;
+    }
+    0
+}
+
+// The frames of a guest's data spaces lose their keys and marks, run by run.
+fn blank_frames(mut cells: [Cell; 512], spaces: [Space; 32], guest: u32) -> [Cell; 512]
+    requires { ⌜ RunsInside spaces ⌝ }
+    ensures { λ r. ⌜ r ≡ blanked (freed spaces spaces (slotsOf (isData guest) spaces)) cells ⌝ }
+{
+    for u in 0..32usize {
+        let x = spaces[u];
+        let first = x.first as usize;
+        for f in first..first + freed_pages(x, guest) as usize {
+            cells[f] = losses::no_cell();
+        }
+    }
+    cells
+}
+
 // The permits for closed spaces go.
 fn unpermit(permits: [Permit; 256], closed: [bool; 33]) -> [Permit; 256]
     ensures { λ r. ⌜ r ≡ unpermitted (flag closed) permits ⌝ }
@@ -146,14 +177,17 @@ pub fn reset(s: State, caller: Caller) -> Reply
     let spaces = s.spaces;
     let permits = s.permits;
     let entries = s.entries;
+    let cells = s.cells;
     let closed = owned_slots(spaces, caller.guest);
     let spaces_after = vacate(spaces, caller.guest);
     let permits_after = unpermit(permits, closed);
     let entries_after = clear_lists(entries, caller.guest, closed);
+    let cells_after = blank_frames(cells, spaces, caller.guest);
     let mut t = s;
     t.spaces = spaces_after;
     t.permits = permits_after;
     t.entries = entries_after;
+    t.cells = cells_after;
     Reply {
         answer: Answer::Done { value: 0 },
         state: t,

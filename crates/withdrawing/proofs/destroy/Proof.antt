@@ -3,6 +3,7 @@ use borrow.Author.Needs.{needs}
 use Rattle.model.specs.Arguments.{arguments, checkAll}
 use Rattle.model.specs.Calls.{enrols, perform, destroy}
 use Rattle.model.proofs.Rules.{checks}
+use Rattle.closing.proofs.Freed.{runs-inside}
 use Rattle.lookup.proofs.Owning.{settling, owned-low}
 use Rattle.lookup.proofs.Rules.{bad-caller, good-caller}
 use Rattle.withdrawing.proofs.Done.{primary-found, destroy-done}
@@ -25,7 +26,7 @@ unfolding enrols arguments checkAll perform destroy
 returns-3 c = search (good-caller, settling, checks, primary-found) depth 8
 
 destroy-at-requires : tie.Need-destroy-at-requires
-destroy-at-requires c κs = search owned-low
+destroy-at-requires c κs = search (owned-low, runs-inside)
 
 returns-4 : tie.Need-returns-4
 returns-4 c = search destroy-done

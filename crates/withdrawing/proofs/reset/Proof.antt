@@ -1,6 +1,7 @@
 -- `withdrawing::reset` meets its contract. Assumes nothing.
 use borrow.Author.Needs.{needs}
 use Rattle.model.specs.Calls.{enrols}
+use Rattle.closing.proofs.Freed.{runs-inside}
 use Rattle.lookup.proofs.Rules.{bad-caller}
 use Rattle.withdrawing.proofs.Done.{reset-done}
 use Rattle.withdrawing.proofs.reset.Statement.{statement}
@@ -23,4 +24,5 @@ reset-spec =
     (λ c κs. search needs)
     (λ c κs. search needs)
     (λ c κs. search needs)
+    (λ c κs. search runs-inside)
     returns-2)
