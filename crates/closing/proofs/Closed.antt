@@ -16,7 +16,7 @@ use Rattle.lists.proofs.Maps.{mapBelow, map-alike}
 use Rattle.model.specs.declared.Cell.{Cell}
 use Rattle.model.specs.declared.Entry.{Entry}
 use Rattle.model.specs.declared.Permit.{Permit}
-use Rattle.model.specs.Changes.{revoked, listOwner, permitSlot, unpermitted, blanked, revokedAll}
+use Rattle.model.specs.Changes.{revoked, listOwner, unpermitted, blanked, revokedAll}
 use Rattle.model.specs.Tables.{noPermit, unusedEntry, noCell}
 use Rattle.model.proofs.Reset.{standing-stays}
 use Rattle.losses.specs.Looks.{keptList}

@@ -19,7 +19,6 @@ use Rattle.model.specs.declared.Space.{Space}
 use Rattle.model.specs.Changes.{freed, blanked}
 use Rattle.model.specs.Frames.{hasFrame}
 use Rattle.model.specs.Searches.{isData}
-use Rattle.model.specs.Sizes.{maxFrames}
 use Rattle.model.specs.Tables.{noCell, spaceAt}
 use Rattle.closing.specs.Run.{inRun, RunsInside}
 use Rattle.closing.proofs.Closed.{cells-done}
