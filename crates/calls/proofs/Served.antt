@@ -7,7 +7,7 @@ use Rattle.model.specs.declared.Answer.{Answer}
 use Rattle.model.specs.declared.Call.{Call}
 use Rattle.model.specs.declared.Caller.{Caller}
 use Rattle.model.specs.declared.Operation.{Operation}
-use Rattle.model.specs.declared.Operation.the-variants.{Enrol, Create, Destroy, Permit, Isolate, Query, Add, Remove, Load, Mode, Fetch, Store, Reset}
+use Rattle.model.specs.declared.Operation.the-variants.{Enrol, Create, Destroy, Permit, Isolate, Query, Add, Remove, Load, Mode, Fetch, Store, Reset, Key, Block}
 use Rattle.model.specs.declared.Reply.{Reply}
 use Rattle.model.specs.declared.Right.{Right}
 use Rattle.model.specs.declared.Settings.{Settings}
@@ -111,3 +111,9 @@ module _ (s : State) (k : Call) (m b : List ℕ) where
 
   pub reset-served : (r : Reply) → k .operation ≡ Reset → Replied Reset r → Served s k r m b m b
   reset-served r e = rw e (still s (k .caller) Reset m b tt tt tt r)
+
+  pub key-served : (key : ℕ) (r : Reply) → k .operation ≡ Key key → Replied (Key key) r → Served s k r m b m b
+  key-served key r e = rw e (still s (k .caller) (Key key) m b tt tt tt r)
+
+  pub block-served : (id address key mark : ℕ) (r : Reply) → k .operation ≡ Block id address key mark → Replied (Block id address key mark) r → Served s k r m b m b
+  block-served id address key mark r e = rw e (still s (k .caller) (Block id address key mark) m b tt tt tt r)

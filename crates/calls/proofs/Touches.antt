@@ -6,7 +6,7 @@ use mathlib.Core.Path.{_≡_, refl}
 use lib.ListN.{length}
 use Rattle.model.specs.declared.Caller.{Caller}
 use Rattle.model.specs.declared.Operation.{Operation}
-use Rattle.model.specs.declared.Operation.the-variants.{Enrol, Create, Destroy, Permit, Isolate, Query, Add, Remove, Load, Mode, Fetch, Store, Reset}
+use Rattle.model.specs.declared.Operation.the-variants.{Enrol, Create, Destroy, Permit, Isolate, Query, Add, Remove, Load, Mode, Fetch, Store, Reset, Key, Block}
 use Rattle.model.specs.declared.State.{State}
 use Rattle.model.specs.Arguments.{arguments}
 use Rattle.model.specs.Calls.{judge, perform}
@@ -40,6 +40,8 @@ touch (Mode m) = tables
 touch (Fetch register address) = buffer
 touch (Store register address) = bytes
 touch Reset = tables
+touch (Key key) = tables
+touch (Block id address key mark) = tables
 
 -- the effects that each may have
 abbrev Fits : Touch → Effect → Type 0
@@ -88,6 +90,8 @@ module _ (s : State) (c : Caller) where
   performed-touches (Fetch register address) n d p = rw (p .is) (record { effect = tt; stays = refl })
   performed-touches (Store register address) n d p = rw (p .is) (record { effect = tt; stays = refl })
   performed-touches Reset n d p = rw (p .is) (record { effect = tt; stays = tt })
+  performed-touches (Key key) n d p = rw (p .is) (record { effect = tt; stays = tt })
+  performed-touches (Block id address key mark) n d p = rw (p .is) (record { effect = tt; stays = tt })
 
   -- a refusal touches nothing
   stays-same : (t : Touch) → Stays t s s
@@ -210,3 +214,5 @@ any-length s c (Mode m) n u = refl
 any-length s c (Fetch register address) n u = absurd u
 any-length s c (Store register address) n u = absurd u
 any-length s c Reset n u = refl
+any-length s c (Key key) n u = refl
+any-length s c (Block id address key mark) n u = refl

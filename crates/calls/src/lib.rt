@@ -1,4 +1,4 @@
-// Any of the thirteen calls as a value, for callers that hold a sound state and its scratch.
+// Any of the fifteen calls as a value, for callers that hold a sound state and its scratch.
 ghost use Prim.Native.Nat.{_*_};
 ghost use mathlib.Core.Bool.{true};
 ghost use mathlib.Core.Path.{_≡_};
@@ -39,5 +39,12 @@ pub fn serve(s: State, scratch: &mut [u8], call: Call, buffer: &mut [u8]) -> Rep
             state: s,
         },
         Operation::Reset => withdrawing::reset(s, caller),
+        Operation::Key { key } => cpus::key(s, caller, key),
+        Operation::Block {
+            id,
+            address,
+            key,
+            mark,
+        } => blocks::block(s, caller, id, address, key, mark),
     }
 }

@@ -6,7 +6,7 @@ use denote.Enum.Declared.{tagOf}
 use types.Run.{OneOf}
 use Rattle.model.specs.declared.Answer.{Answer}
 use Rattle.model.specs.declared.Operation.{Operation}
-use Rattle.model.specs.declared.Operation.the-variants.{Permit, Isolate, Query, Add, Remove, Load, Mode, Fetch, Store}
+use Rattle.model.specs.declared.Operation.the-variants.{Permit, Isolate, Query, Add, Remove, Load, Mode, Fetch, Store, Key, Block}
 use Rattle.model.specs.declared.Right.{Right}
 use Rattle.model.specs.Replies.{replied}
 use Rattle.model.proofs.Classes.{unmoving-at}
@@ -56,6 +56,12 @@ module _ (v : View) (o : Operation) (m b : List ℕ) (r : Decision) where
 
   pub mode-made : (mode : ℕ) (x : Edited) → o ≡ Mode mode → r ≡ Made x → Decided v (Mode mode) x → DecidedTo v o m b r m b
   mode-made mode x is = by (Mode mode) is tt tt tt x
+
+  pub key-made : (key : ℕ) (x : Edited) → o ≡ Key key → r ≡ Made x → Decided v (Key key) x → DecidedTo v o m b r m b
+  key-made key x is = by (Key key) is tt tt tt x
+
+  pub block-made : (id address key mark : ℕ) (x : Edited) → o ≡ Block id address key mark → r ≡ Made x → Decided v (Block id address key mark) x → DecidedTo v o m b r m b
+  block-made id address key mark x is = by (Block id address key mark) is tt tt tt x
 
   -- ISOLATE
   pub isolate-refused : (id : ℕ) (w : Owned) (a : Answer) → o ≡ Isolate id → IsolatedTo v id w → w ≡ Refused a → r ≡ Made (record { answer = a; edit = Nothing }) → DecidedTo v o m b r m b

@@ -58,6 +58,13 @@ pub fn decide(v: View, scratch: &mut [u8], operation: Operation, buffer: &mut [u
         Operation::Store { register, address } => {
             unchanged(access::store_seen(v, scratch, register, address, buffer))
         }
+        Operation::Key { key } => made(cpus::decide_key(v, key)),
+        Operation::Block {
+            id,
+            address,
+            key,
+            mark,
+        } => made(blocks::decide_block(v, id, address, key, mark)),
         _ => Decision::NeedsTables,
     }
 }
