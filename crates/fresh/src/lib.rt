@@ -1,7 +1,8 @@
-// The fresh state: nobody enrolled, no space live, every entry unused.
+// The fresh state: nobody enrolled, no space live, every entry unused, every cell with key 0 and no mark.
 ghost use mathlib.Core.Path.{_≡_};
 ghost use Rattle.model.specs.Fresh.{emptyTables, framesInRange, fresh};
 use model::Answer;
+use model::Cell;
 use model::Cpu;
 use model::Entry;
 use model::Grant;
@@ -34,6 +35,7 @@ pub fn empty(frames: u32, next: u32) -> State
     let cpu = Cpu {
         registers: [0; 16],
         mode: false,
+        key: 0,
     };
     let permit = Permit {
         grant: Grant::Nothing,
@@ -41,6 +43,10 @@ pub fn empty(frames: u32, next: u32) -> State
     let unused = Entry {
         standing: Standing::Unused,
         sequence: 0,
+    };
+    let blank = Cell {
+        key: 0,
+        mark: false,
     };
     State {
         frames: frames,
@@ -50,6 +56,7 @@ pub fn empty(frames: u32, next: u32) -> State
         cpus: [cpu; 8],
         permits: [permit; 256],
         entries: [unused; 240],
+        cells: [blank; 512],
     }
 }
 

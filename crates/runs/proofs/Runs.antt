@@ -6,13 +6,15 @@ use mathlib.Core.List.{List}
 use mathlib.Core.Path.{_≡_, sym, _∙_}
 use native.Mathlib.Decide.{decLe}
 use native.Mathlib.Omega.{arith}
-use borrow.Author.Tests.{leb-true, ltb-true, eq-eqb, ne-eqb, le-leb, lt-leb, lt-ltb}
-use Rattle.lists.proofs.Choice.{true-false, not-so, not-to, not-of, both-left, both-right, both-intro, both-no, implies-to, implies-of}
+use borrow.Author.Tests.{leb-true, ltb-true, le-leb, lt-leb, lt-ltb}
+use Rattle.lists.proofs.Choice.{true-false, not-so, both-left, both-right, both-intro, both-no}
 use Rattle.lists.proofs.Places.{every-at, every-intro, lowest-none, lowest-is}
 use Rattle.model.specs.declared.Space.{Space}
-use Rattle.model.specs.Frames.{frameOf, frameFree}
+use Rattle.model.specs.Frames.{frameOf}
 use Rattle.model.specs.Searches.{runFree, runIn}
 use Rattle.model.specs.Tables.{spaceAt, live}
+use Rattle.model.proofs.Runs.{d-frame}
+use Rattle.model.proofs.Searches.{d-live}
 use Rattle.runs.specs.Meeting.{meets}
 
 -- the space is live and has one of n frames from f on
@@ -47,20 +49,17 @@ module _ (F : ℕ) (ss : List Space) (n : ℕ) where
 
   -- no run starts where a page of a live space lies in one of the frames
   occupied : (f u p k : ℕ) → u < 32 → live (spaceAt ss u) ≡ true → p < spaceAt ss u .pages → k < n → frameOf ss u p ≡ f + k → run f ≡ false
-  unfolding runFree frameFree
+  unfolding runFree
   occupied f u p k hu l hp hk same = not-so (run f) (λ e.
-      let frame = every-at _ n (both-right _ _ e) k hk in
-      let pages = implies-to _ _ (every-at _ 32 frame u hu) l in
-      true-false (eq-eqb (frameOf ss u p) (f + k) same) (not-to _ (every-at _ (spaceAt ss u .pages) pages p hp)))
+      d-frame ss ss (f + k) .to (every-at _ n (both-right _ _ e) k hk) u hu (d-live (spaceAt ss u) .to l) (p, hp, same))
 
   -- a run starts where no live space is met
   unmet : (f : ℕ) → f + n ≤ F → ((u : ℕ) → u < 32 → Meets f n (spaceAt ss u) → ⊥) → run f ≡ true
-  unfolding runFree frameFree frameOf
+  unfolding runFree frameOf
   unmet f h none =
       both-intro _ _ (le-leb (f + n) F h)
-      (every-intro _ n (λ k hk. every-intro _ 32 (λ u hu. implies-of _ _ (λ l.
-      every-intro _ (spaceAt ss u .pages) (λ p hp. not-of _ (ne-eqb _ (f + k) (λ e.
-      none u hu (record { live = l; pages = omega arith; starts = omega arith; ends = omega arith }))))))))
+      (every-intro _ n (λ k hk. d-frame ss ss (f + k) .of (λ u hu l (p, hp, e).
+      none u hu (record { live = d-live (spaceAt ss u) .of l; pages = omega arith; starts = omega arith; ends = omega arith }))))
 
   -- where the space in slot u is met, no run starts from f to its end
   met : (f u : ℕ) → 1 ≤ n → u < 32 → Meets f n (spaceAt ss u) → (g : ℕ) → f ≤ g → g < spaceAt ss u .first + spaceAt ss u .pages → run g ≡ false

@@ -1,5 +1,5 @@
-// Check 1: one guest with its CPU. An enrolled one has one primary space, no more data spaces than its allowance, and its settings
-// in range; of another one all is zero.
+// Check 1: one guest with its CPU. An enrolled one has one primary space, no more data spaces than its allowance, its settings
+// in range and an access key of 4 bits; of another one all is zero.
 ghost use mathlib.Core.Path.{_≡_};
 ghost use lib.Dec.{eqb};
 ghost use lib.ListN.{getD};
@@ -38,6 +38,9 @@ fn absent_ok(x: Guest, c: Cpu) -> bool
     if c.mode {
         return false;
     }
+    if c.key != 0 {
+        return false;
+    }
     let registers = c.registers;
     zero_registers(registers)
 }
@@ -58,6 +61,9 @@ fn enrolled_ok(x: Guest, c: Cpu, primaries: u8, owned: u8) -> bool
         return false;
     }
     if 30 < x.list {
+        return false;
+    }
+    if 15 < c.key {
         return false;
     }
     if c.mode {

@@ -29,7 +29,11 @@ returns-6 : tie.Need-returns-6
 unfolding absentTest
 returns-6 c = search tests depth 10
 
+returns-7 : tie.Need-returns-7
+unfolding absentTest
+returns-7 c = search tests depth 10
+
 pub absent-ok-spec : {M : Type 1} → statement M
 absent-ok-spec =
     tie.close
-    (tie.spec returns returns-2 returns-3 returns-4 returns-5 (λ c κs. search needs) returns-6)
+    (tie.spec returns returns-2 returns-3 returns-4 returns-5 returns-6 (λ c κs. search needs) returns-7)
