@@ -1,0 +1,150 @@
+-- The loops that put the frames of live spaces out of the way: of one space, and of all. Assumes nothing.
+use Prim.Native.Nat.{ℕ, _+_, _-_, _≤_, _<_}
+use mathlib.Core.Bool.{Bool, true, false, not}
+use mathlib.Core.List.{List}
+use mathlib.Core.Logic.{inl, inr}
+use mathlib.Core.Path.{_≡_, refl, sym, ap, _∙_}
+use native.Mathlib.Decide.{ℕ-discrete, decLe}
+use native.Mathlib.Omega.{arith}
+use lib.Dec.{leb, ltb}
+use lib.ListN.{length, getD, set, length-set}
+use Rattle.lists.specs.Choice.{both, choose, implies}
+use Rattle.lists.specs.Decides.{Decides}
+use Rattle.lists.specs.Places.{every}
+use Rattle.lists.proofs.Choice.{not-so, both-left, both-right, both-intro, yes!, no! }
+use Rattle.lists.proofs.Decides.{d-le, d-lt, d-not, d-both, d-implies}
+use Rattle.lists.proofs.Maps.{at-set}
+use Rattle.lists.proofs.Places.{every-at, every-intro, every-same}
+use Rattle.model.specs.declared.Space.{Space}
+use Rattle.model.specs.Frames.{frameOf, hasFrame, frameFree}
+use Rattle.model.specs.Sound.{HasFrame}
+use Rattle.model.specs.Tables.{spaceAt, live}
+use Rattle.model.proofs.Runs.{d-has}
+use Rattle.model.proofs.Searches.{d-live}
+use Rattle.permitted.specs.Columns.{Filled}
+use Rattle.permitted.proofs.Same.{same, same-by}
+use Rattle.cells.specs.Left.{outside, leftBy, leftAt, Fits, AllFit}
+
+abbrev Outside : Space → ℕ → Type 0
+Outside x f = 1 ≤ x .id → (x .first ≤ f) × (f < x .first + x .pages) → ⊥
+
+d-outside : (x : Space) (f : ℕ) → Decides (outside x f) (Outside x f)
+unfolding outside
+d-outside x f = d-implies (d-live x) (d-not (d-both (d-le (x .first) f) (d-lt f (x .first + x .pages))))
+
+-- so far: the frames from the first of a space up to f
+pub record Clearing (ws vs : List ℕ) (first end f : ℕ) : Type 0 where
+  pub long : 512 ≤ length vs
+  pub low : first ≤ f
+  pub high : f ≤ end
+  pub inside : end ≤ 512
+  pub gone : (k : ℕ) → first ≤ k → k < f → getD vs k 0 ≡ 0
+  pub kept : (k : ℕ) → (first ≤ k → k < f → ⊥) → getD vs k 0 ≡ getD ws k 0
+
+module _ (ws : List ℕ) (x : Space) where
+  pub clear-none : 512 ≤ length ws → x .id ≡ 0 → Filled ws (leftBy x ws) 512
+  clear-none len e = record { long = len; at = λ k _. sym (yes! _ 0 (d-outside x k .of (λ l _. omega arith))) }
+
+  pub clear-start : 512 ≤ length ws → Fits x → (x .id ≡ 0 → ⊥) → Clearing ws ws (x .first) (x .first + x .pages) (x .first)
+  clear-start len fits n = record {
+    long = len;
+    low = omega arith;
+    high = omega arith;
+    inside = fits .inside (omega arith);
+    gone = λ k a b. absurd (omega arith);
+    kept = λ k _. refl;
+  }
+
+  pub clear-end : (vs : List ℕ) (f : ℕ) → Clearing ws vs (x .first) (x .first + x .pages) f → (x .id ≡ 0 → ⊥) → x .first + x .pages ≤ f → Filled vs (leftBy x ws) 512
+  clear-end vs f h n l = record { long = h .long; at = λ k _. go k (decLe (x .first) k) (decLe (x .first + x .pages) k) }
+    where
+      out : (k : ℕ) → (x .first ≤ k → k < x .first + x .pages → ⊥) → getD vs k 0 ≡ leftBy x ws k
+      out k o = h .kept k (λ a b. o a (omega (arith, h .high))) ∙ sym (yes! _ 0 (d-outside x k .of (λ _ (a, b). o a b)))
+
+      go : (k : ℕ) → Dec (x .first ≤ k) → Dec (x .first + x .pages ≤ k) → getD vs k 0 ≡ leftBy x ws k
+      go k (no a) d = out k (λ b _. a b)
+      go k (yes a) (yes b) = out k (λ _ c. omega arith)
+      go k (yes a) (no b) = h .gone k a (omega arith) ∙ sym (no! (getD ws k 0) _ (not-so _ (λ e. d-outside x k .to e (omega arith) (a, omega arith))))
+
+pub clear-go : (ws vs : List ℕ) (first end f : ℕ) → Clearing ws vs first end f → f < end → Clearing ws (set vs f 0) first end (f + 1)
+clear-go ws vs first end f h l = record {
+  long = omega (arith, length-set vs f 0, h .long);
+  low = omega (arith, h .low);
+  high = omega arith;
+  inside = h .inside;
+  gone = λ k a b. at-set (λ y. y ≡ 0) vs f 0 k 0 room (λ _. refl) (λ q. h .gone k a (omega arith));
+  kept = λ k o. at-set (λ y. y ≡ getD ws k 0) vs f 0 k 0 room (λ q. absurd (o (omega (arith, h .low)) (omega arith))) (λ q. h .kept k (λ a b. o a (omega arith)));
+}
+  where
+    room : f < length vs
+    room = omega (arith, h .long, h .inside)
+
+pub fits-at : (ss : List Space) (u : ℕ) → AllFit ss → u < 32 → Fits (spaceAt ss u)
+fits-at ss u h l = h .at u l
+
+-- the frames of a space as the model has them
+outside-is : (ss : List Space) (u f : ℕ) → outside (spaceAt ss u) f ≡ implies (live (spaceAt ss u)) (not (hasFrame ss ss u f))
+unfolding outside frameOf
+outside-is ss u f = ap (λ b. implies (live (spaceAt ss u)) (not b)) (same-by
+    (d-both (d-le (spaceAt ss u .first) f) (d-lt f (spaceAt ss u .first + spaceAt ss u .pages)))
+    (d-has ss ss u f) to of)
+  where
+    to : (spaceAt ss u .first ≤ f) × (f < spaceAt ss u .first + spaceAt ss u .pages) → HasFrame ss ss u f
+    to (a, b) = (f - spaceAt ss u .first, omega arith, omega arith)
+
+    of : HasFrame ss ss u f → (spaceAt ss u .first ≤ f) × (f < spaceAt ss u .first + spaceAt ss u .pages)
+    of (p, b, e) = (omega arith, omega arith)
+
+-- one more place tested
+every-more : (p : ℕ → Bool) (n : ℕ) → every p (n + 1) ≡ both (every p n) (p n)
+every-more p n = same _ _
+    (λ h. both-intro _ _ (every-intro p n (λ k l. every-at p (n + 1) h k (omega arith))) (every-at p (n + 1) h n (omega arith)))
+    (λ h. every-intro p (n + 1) (λ k l. go h k l (ℕ-discrete k n)))
+  where
+    go : both (every p n) (p n) ≡ true → (k : ℕ) → k < n + 1 → Dec (k ≡ n) → p k ≡ true
+    go h k l (yes e) = rw e (both-right (every p n) _ h)
+    go h k l (no e) = every-at p n (both-left _ _ h) k (omega arith)
+
+choose-both : (a b : Bool) (w : ℕ) → choose b (choose a w 0) 0 ≡ choose (both a b) w 0
+unfolding choose both
+choose-both true b w = refl
+choose-both false true w = refl
+choose-both false false w = refl
+
+-- so far: the slots below u
+pub record Used (ss : List Space) (ws vs : List ℕ) (u : ℕ) : Type 0 where
+  pub below : u ≤ 32
+  pub left : Filled vs (λ f. choose (every (λ v. outside (spaceAt ss v) f) u) (getD ws f 0) 0) 512
+
+module _ (ss : List Space) (ws : List ℕ) where
+  pub used-start : 512 ≤ length ws → Used ss ws ws 0
+  used-start len = record {
+    below = omega arith;
+    left = record { long = len; at = λ f _. sym (yes! _ 0 (every-intro _ 0 (λ k l. absurd (omega arith)))) };
+  }
+
+  module _ (vs : List ℕ) (u : ℕ) (h : Used ss ws vs u) where
+    pub used-go : (ys : List ℕ) → u < 32 → Filled ys (leftBy (spaceAt ss u) vs) 512 → Used ss ws ys (u + 1)
+    used-go ys l c = record {
+      below = omega arith;
+      left = record {
+        long = c .long;
+        at = λ f b.
+            c .at f b
+            ∙ ap (λ w. choose (outside (spaceAt ss u) f) w 0) (h .left .at f b)
+            ∙ choose-both _ (outside (spaceAt ss u) f) (getD ws f 0)
+            ∙ ap (λ t. choose t (getD ws f 0) 0) (sym (every-more (λ v. outside (spaceAt ss v) f) u));
+      };
+    }
+
+    pub used-end : 32 ≤ u → Filled vs (leftAt ss ws) 512
+    unfolding frameFree
+    used-end l =
+        let q : u ≡ 32 = omega (arith, h .below) in
+        record {
+          long = h .left .long;
+          at = λ f b.
+              h .left .at f b
+              ∙ ap (λ n. choose (every (λ v. outside (spaceAt ss v) f) n) (getD ws f 0) 0) q
+              ∙ ap (λ t. choose t (getD ws f 0) 0) (every-same _ _ 32 (λ v _. outside-is ss v f));
+        }

@@ -1,0 +1,28 @@
+-- What is left of a column of numbers, one for each frame, where the frames of live spaces get 0.
+use Prim.Native.Nat.{ℕ, _+_, _≤_, _<_}
+use mathlib.Core.Bool.{Bool, not}
+use mathlib.Core.List.{List}
+use lib.Dec.{leb, ltb}
+use lib.ListN.{getD}
+use Rattle.lists.specs.Choice.{both, choose, implies}
+use Rattle.model.specs.declared.Space.{Space}
+use Rattle.model.specs.Frames.{frameFree}
+use Rattle.model.specs.Sizes.{slotCount, maxFrames}
+use Rattle.model.specs.Tables.{spaceAt, live}
+
+-- the space is not live, or the frame is none of its own
+unfoldable pub outside : Space → (frame : ℕ) → Bool
+outside x f = implies (live x) (not (both (leb (x .first) f) (ltb f (x .first + x .pages))))
+
+abbrev pub leftBy : Space → List ℕ → (frame : ℕ) → ℕ
+leftBy x ws f = choose (outside x f) (getD ws f 0) 0
+
+abbrev pub leftAt : List Space → List ℕ → (frame : ℕ) → ℕ
+leftAt ss ws f = choose (frameFree ss ss f) (getD ws f 0) 0
+
+-- where the space is live, its frames have cells
+pub record Fits (x : Space) : Type 0 where
+  pub inside : 1 ≤ x .id → x .first + x .pages ≤ maxFrames
+
+pub record AllFit (ss : List Space) : Type 0 where
+  pub at : (u : ℕ) → u < slotCount → Fits (spaceAt ss u)

@@ -1,0 +1,96 @@
+// Check 1: the cells. Every key has 4 bits, and a frame that no live space has is blank: key 0, mark off. Each cell becomes one
+// plain number, so that one pass without a way out tells of all of them, many at a time.
+ghost use Prim.Native.Nat.{_≤_};
+ghost use mathlib.Core.Path.{_≡_};
+ghost use lib.ListN.{length, getD};
+ghost use Rattle.model.specs.SoundTest.{cellsTest};
+ghost use Rattle.permitted.specs.Columns.{Filled};
+ghost use Rattle.cells.specs.Weights.{weightOf, weightAt, larger as largerOf, mostOf};
+ghost use Rattle.cells.specs.Left.{leftBy, leftAt, Fits, AllFit};
+use model::Cell;
+use model::Space;
+
+// The key, or else 1 for a mark alone: 0 says that the cell is blank, and more than 15 that its key is too high.
+fn weight(c: Cell) -> u8
+    ensures { λ r. ⌜ r ≡ weightOf c ⌝ }
+{
+    if c.key != 0 {
+        return c.key;
+    }
+    if c.mark {
+        return 1;
+    }
+    0
+}
+
+fn weights_of(cells: [Cell; 512]) -> [u8; 512]
+    ensures { λ r. ⌜ Filled r (weightAt cells) 512 ⌝ }
+{
+    let mut weights = [0u8; 512];
+    for f in 0..512usize {
+        let c = cells[f];
+        weights[f] = weight(c);
+    }
+    weights
+}
+
+fn larger(m: u8, n: u8) -> u8
+    ensures { λ r. ⌜ r ≡ largerOf m n ⌝ }
+{
+    if m < n {
+        return n;
+    }
+    m
+}
+
+fn heaviest(weights: &[u8; 512]) -> u8
+    ensures { λ r. ⌜ r ≡ mostOf (λ f. getD (now (weights .entry)) f 0) 512 ⌝ }
+{
+    let mut most = 0u8;
+    for f in 0..512usize {
+        most = larger(most, weights[f]);
+    }
+    most
+}
+
+// The frames of a live space may have any weight: theirs are put out of the way.
+fn clear_frames(x: Space, weights: &mut [u8; 512])
+    requires { ⌜ Fits x × (512 ≤ length (now weights)) ⌝ }
+    ensures { λ _. ⌜ Filled (now (weights .exit)) (leftBy x (now (weights .entry))) 512 ⌝ }
+{
+    if x.id == 0 {
+        return;
+    }
+    let first = x.first as usize;
+    let end = first + x.pages as usize;
+    for f in first..end {
+        weights[f] = 0;
+    }
+}
+
+fn clear_used(spaces: [Space; 32], weights: &mut [u8; 512])
+    requires { ⌜ AllFit spaces × (512 ≤ length (now weights)) ⌝ }
+    ensures { λ _. ⌜ Filled (now (weights .exit)) (leftAt spaces (now (weights .entry))) 512 ⌝ }
+{
+    for u in 0..32usize {
+        let x = spaces[u];
+        clear_frames(x, weights);
+    }
+}
+
+// Where every cell is blank, no space has to be asked.
+pub fn cells_ok(spaces: [Space; 32], cells: [Cell; 512]) -> bool
+    requires { ⌜ AllFit spaces ⌝ }
+    ensures { λ r. ⌜ r ≡ cellsTest spaces spaces cells ⌝ }
+{
+    let mut weights = weights_of(cells);
+    let most = heaviest(&weights);
+    if most == 0 {
+        return true;
+    }
+    if 15 < most {
+        return false;
+    }
+    clear_used(spaces, &mut weights);
+    heaviest(&weights) == 0
+}
