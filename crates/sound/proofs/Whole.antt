@@ -1,18 +1,24 @@
 -- What each test of the code says of the whole: where one fails the state is not sound, and the last one says whether it is.
 -- Assumes nothing.
-use Prim.Native.Nat.{ℕ}
+use Prim.Native.Nat.{ℕ, _+_, _-_, _≤_}
 use mathlib.Core.Bool.{Bool, true, false, not}
 use mathlib.Core.List.{List}
 use mathlib.Core.Path.{_≡_, sym, _∙_}
+use native.Mathlib.Omega.{arith}
 use lib.ListN.{length}
 use borrow.Author.Tests.{eq-eqb, not-false}
 use Rattle.lists.specs.Choice.{both}
 use Rattle.lists.proofs.Choice.{both-yes, both-no}
+use Rattle.lists.proofs.Places.{every-at}
 use Rattle.lists.proofs.Rules.{test-no, test-yes}
 use Rattle.model.specs.declared.Guest.{Guest}
 use Rattle.model.specs.declared.Space.{Space}
 use Rattle.model.specs.declared.State.{State}
-use Rattle.model.specs.SoundTest.{sound, headTest, apartTest, spacesTest, guestsTest, permitsTest}
+use Rattle.model.specs.SoundTest.{sound, headTest, apartTest, spacesTest, guestsTest, permitsTest, entriesTest, cellsTest}
+use Rattle.model.specs.Tables.{spaceAt}
+use Rattle.model.proofs.SoundParts.{LiveFacts, slot-decides}
+use Rattle.model.proofs.SoundTest.{head-decides}
+use Rattle.cells.specs.Left.{AllFit}
 use Rattle.permitted.specs.Columns.{Filled, Owners, OwnersOf, PowersOf, Permits}
 use Rattle.permitted.proofs.Permits.{permits-is}
 use Rattle.listed.specs.Standings.{standingsWith, aboveTest}
@@ -50,6 +56,11 @@ pub record PermitsPassed (s : State) (ws : List ℕ) : Type 0 where
   pub ts : List ℕ
   pub owners : OwnersOf (s .spaces) ts
   pub powers : PowersOf (s .permits) ts ws
+
+pub record EntriesPassed (s : State) : Type 0 where
+  pub ws : List ℕ
+  pub before : PermitsPassed s ws
+  pub entries : entriesTest (s .guests) (s .spaces) (s .permits) (s .entries) ≡ true
 
 module _ (s : State) (r : Bool) where
   module _ (e : r ≡ headTest (s .frames) (s .next)) where
@@ -112,16 +123,37 @@ module _ (s : State) (r : Bool) where
     pub permits-yes : not r ≡ false → PermitsPassed s ws
     permits-yes t = record { before = p; permits = test-yes r _ permits-said t; ts = ts; owners = owners-said; powers = said .table (not-false r t) }
 
--- the entries say the rest
-pub entries-say : (s : State) (r : Bool) (ws : List ℕ) → PermitsPassed s ws → r ≡ both (standingsWith ws (s .entries)) (aboveTest (s .guests) (s .entries)) → r ≡ sound s
+  module _ (ws : List ℕ) (e : r ≡ both (standingsWith ws (s .entries)) (aboveTest (s .guests) (s .entries))) (p : PermitsPassed s ws) where
+    entries-said : r ≡ entriesTest (s .guests) (s .spaces) (s .permits) (s .entries)
+    entries-said =
+        let h = p .before .before .before .before .held in
+        e
+        ∙ entries-is (s .guests) (s .spaces) (s .permits) (s .entries) ws (h .sequence)
+        (standing-is (s .guests) (s .spaces) (s .permits) (p .ts) ws (p .owners) (p .permits) (p .powers)) (h .entries)
+
+    pub entries-no : not r ≡ true → false ≡ sound s
+    unfolding sound
+    entries-no t =
+        let q = p .before .before .before in
+        sym (both-yes _ (q .before .head) ∙ both-yes _ (p .before .before .spaces) ∙ both-yes _ (p .before .guests) ∙ both-yes _ (p .permits) ∙ both-no _ (test-no r _ entries-said t))
+
+    pub entries-yes : not r ≡ false → EntriesPassed s
+    entries-yes t = record { ws = ws; before = p; entries = test-yes r _ entries-said t }
+
+-- the frames of live spaces lie inside F, so each has a cell
+pub cells-fit : (s : State) → SlotsPassed s → AllFit (s .spaces)
+cells-fit s p = record { at = λ u b. record { inside = λ l. fit u (slot-decides _ _ _ _ .to (every-at _ 32 (p .slots) u b) .0 l) } }
+  where
+    fit : (u : ℕ) → LiveFacts (s .frames) (s .next) (s .guests) (spaceAt (s .spaces) u) → spaceAt (s .spaces) u .first + spaceAt (s .spaces) u .pages ≤ 512
+    fit u x = omega (arith, x .pages, x .inside (spaceAt (s .spaces) u .pages - 1) (omega (arith, x .pages)), head-decides (s .frames) (s .next) .to (p .before .head) .frames-high)
+
+-- the cells say the rest
+pub cells-say : (s : State) (r : Bool) → EntriesPassed s → r ≡ cellsTest (s .spaces) (s .spaces) (s .cells) → r ≡ sound s
 unfolding sound
-entries-say s r ws p e =
-    let q = p .before .before .before in
-    let h = q .before .held in
+cells-say s r p e =
+    let q = p .before .before .before .before in
     e
-    ∙ entries-is (s .guests) (s .spaces) (s .permits) (s .entries) ws (h .sequence)
-    (standing-is (s .guests) (s .spaces) (s .permits) (p .ts) ws (p .owners) (p .permits) (p .powers)) (h .entries)
-    ∙ sym (both-yes _ (q .before .head) ∙ both-yes _ (p .before .before .spaces) ∙ both-yes _ (p .before .guests) ∙ both-yes _ (p .permits))
+    ∙ sym (both-yes _ (q .before .head) ∙ both-yes _ (p .before .before .before .spaces) ∙ both-yes _ (p .before .before .guests) ∙ both-yes _ (p .before .permits) ∙ both-yes _ (p .entries))
 
 -- for search: what passed, test by test
-pub ruleset passed = (head-yes, slots-yes, tags-yes, apart-yes, guests-yes, permits-yes)
+pub ruleset passed = (head-yes, slots-yes, tags-yes, apart-yes, guests-yes, permits-yes, entries-yes)

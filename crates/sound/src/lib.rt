@@ -47,5 +47,9 @@ pub fn is_sound(s: State) -> bool
         return false;
     }
     let entries = s.entries;
-    listed::entries_ok(&powers, guests, entries)
+    if !listed::entries_ok(&powers, guests, entries) {
+        return false;
+    }
+    let cells = s.cells;
+    cells::cells_ok(spaces, cells)
 }

@@ -1,6 +1,6 @@
 -- `sound::is_sound` meets its contract. Assumes nothing.
 use Rattle.sound.proofs.Held.{held}
-use Rattle.sound.proofs.Whole.{head-no, slots-no, apart-no, guests-no, permits-no, entries-say, owners-yes, passed}
+use Rattle.sound.proofs.Whole.{head-no, slots-no, apart-no, guests-no, permits-no, entries-no, cells-say, owners-yes, cells-fit, passed}
 use Rattle.sound.specs.Held.{Held}
 use borrow.Author.Needs.{needs}
 use Rattle.sound.proofs.is_sound.Statement.{statement}
@@ -28,7 +28,13 @@ returns-5 : tie.Need-returns-5
 returns-5 c = search (permits-no, passed, held-at) depth 10
 
 returns-6 : tie.Need-returns-6
-returns-6 c = search (entries-say, passed, held-at) depth 10
+returns-6 c = search (entries-no, passed, held-at) depth 10
+
+cells-ok-requires : tie.Need-cells-ok-requires
+cells-ok-requires c κs = search (cells-fit, passed, held-at) depth 10
+
+returns-7 : tie.Need-returns-7
+returns-7 c = search (cells-say, passed, held-at) depth 12
 
 pub is-sound-spec : {M : Type 1} → statement M
 is-sound-spec =
@@ -46,4 +52,6 @@ is-sound-spec =
     permits-ok-requires
     returns-5
     (λ c κs. search needs)
-    returns-6)
+    returns-6
+    cells-ok-requires
+    returns-7)
