@@ -27,7 +27,7 @@ abbrev numbered : List ℕ
 numbered = 0 ∷ 1 ∷ 5 ∷ 6 ∷ []
 
 abbrev unshown : List ℕ
-unshown = 2 ∷ 3 ∷ 4 ∷ 7 ∷ 8 ∷ 9 ∷ 11 ∷ 12 ∷ []
+unshown = 2 ∷ 3 ∷ 4 ∷ 7 ∷ 8 ∷ 9 ∷ 11 ∷ 12 ∷ 13 ∷ 14 ∷ []
 
 number-is : (o : Operation) (a : Answer) (m : List ℕ) → OneOf numbered (tagOf operation-cases.the-type o) → decimal (value a) ≡ doneText o a m
 unfolding doneText
