@@ -7,7 +7,7 @@ ghost use Rattle.model.specs.Fresh.{fresh as freshOf};
 ghost use Rattle.model.specs.Promise.{Promise, stepOf};
 ghost use Rattle.model.specs.Replies.{reply, callOf};
 ghost use Rattle.model.specs.declared.Answer.the-variants.{Unsound};
-ghost use Rattle.model.specs.declared.Operation.the-variants.{Enrol, Create, Destroy, Permit, Isolate, Query, Add, Remove, Load, Mode, Fetch, Store, Reset};
+ghost use Rattle.model.specs.declared.Operation.the-variants.{Enrol, Create, Destroy, Permit, Isolate, Query, Add, Remove, Load, Mode, Fetch, Store, Reset, Key, Block};
 use model::Answer;
 use model::Call;
 use model::Caller;
@@ -136,6 +136,32 @@ pub fn mode(s: State, scratch: &[u8], caller: Caller, mode: u32) -> Reply
     cpus::mode(s, caller, mode)
 }
 
+pub fn key(s: State, scratch: &[u8], caller: Caller, key: u32) -> Reply
+    ensures { λ r. ⌜ Promise (stepOf s (now (scratch .entry)) (callOf caller (Key key)) []) (r .answer) (r .state) (now (scratch .entry)) [] ⌝ }
+{
+    if !ready::is_ready(s, scratch.len()) {
+        return unsound(s);
+    }
+    cpus::key(s, caller, key)
+}
+
+pub fn block(
+    s: State,
+    scratch: &[u8],
+    caller: Caller,
+    id: u32,
+    address: u32,
+    key: u32,
+    mark: u32,
+) -> Reply
+    ensures { λ r. ⌜ Promise (stepOf s (now (scratch .entry)) (callOf caller (Block id address key mark)) []) (r .answer) (r .state) (now (scratch .entry)) [] ⌝ }
+{
+    if !ready::is_ready(s, scratch.len()) {
+        return unsound(s);
+    }
+    blocks::block(s, caller, id, address, key, mark)
+}
+
 // FETCH and STORE leave the tables: the state is not returned.
 pub fn fetch(
     s: State,
@@ -178,7 +204,7 @@ pub fn reset(s: State, scratch: &[u8], caller: Caller) -> Reply
     withdrawing::reset(s, caller)
 }
 
-// Any of the thirteen as a value.
+// Any of the fifteen as a value.
 pub fn serve(s: State, scratch: &mut [u8], call: Call, buffer: &mut [u8]) -> Reply
     ensures { λ r. ⌜ Promise (stepOf s (now (scratch .entry)) call (now (buffer .entry))) (r .answer) (r .state) (now (scratch .exit)) (now (buffer .exit)) ⌝ }
 {
