@@ -9,6 +9,7 @@ ghost use Rattle.model.specs.Lines.{readLine, dataOf};
 ghost use Rattle.driver.specs.Feed.{ended, replyTo, newlineFrom, wholeLine};
 ghost use Rattle.driver.specs.Fed.{feedOf, opened, FedTo, FinishedTo};
 use edits::Edit;
+use keys::Guard;
 use model::Request;
 use model::State;
 use turns::Answered;
@@ -141,6 +142,8 @@ fn feed_lines(
         let other = state.guests[column];
         let permit = state.permits[u * 8 + column];
         let unused = state.entries[views::free_place(row, take.at)];
+        let block = state.cells[views::block_place(space, asks.address)];
+        let beyond = state.cells[views::beyond_place(space, asks.address)];
         let v = View {
             place: lookup::place_of(guest, asks.caller),
             guest: guest,
@@ -152,6 +155,11 @@ fn feed_lines(
             permit: permit,
             free: take.at,
             unused: unused,
+            guard: Guard {
+                key: cpu.key,
+                block: block,
+                beyond: beyond,
+            },
         };
         let here = Here {
             begun: begun,
@@ -192,6 +200,18 @@ fn feed_lines(
                         let mut changed = state.cpus[c];
                         changed.mode = mode;
                         state.cpus[c] = changed;
+                    }
+                    Edit::Key { cpu: k, key } => {
+                        let c = k as usize;
+                        let mut changed = state.cpus[c];
+                        changed.key = key;
+                        state.cpus[c] = changed;
+                    }
+                    Edit::Cell {
+                        place: k,
+                        cell: protects,
+                    } => {
+                        state.cells[k as usize] = protects;
                     }
                 }
             }

@@ -72,7 +72,7 @@ part-given q k size n b g p c =
 
 -- How long it is, call by call: the calls that move no bytes by their places in the enum.
 abbrev plain : List ℕ
-plain = 0 ∷ 1 ∷ 2 ∷ 3 ∷ 4 ∷ 5 ∷ 6 ∷ 7 ∷ 8 ∷ 9 ∷ 12 ∷ []
+plain = 0 ∷ 1 ∷ 2 ∷ 3 ∷ 4 ∷ 5 ∷ 6 ∷ 7 ∷ 8 ∷ 9 ∷ 12 ∷ 13 ∷ 14 ∷ []
 
 module _ (o : Operation) (n : ℕ) where
   pub length-fetch : (r a x : ℕ) → o ≡ Fetch r a → x ≡ min n 257 → x ≡ bufferLength (classOf o .moves) n

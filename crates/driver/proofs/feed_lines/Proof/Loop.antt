@@ -16,6 +16,8 @@ use Rattle.turns.proofs.change.Reads as change-reads
 use Rattle.turns.proofs.tell.Reads as tell-reads
 use Rattle.views.proofs.advance.Reads as advance-reads
 use Rattle.views.proofs.asked.Reads as asked-reads
+use Rattle.views.proofs.beyond_place.Reads as beyond-place-reads
+use Rattle.views.proofs.block_place.Reads as block-place-reads
 use Rattle.views.proofs.free_place.Reads as free-place-reads
 use Rattle.views.proofs.go_on.Reads as go-on-reads
 use Rattle.views.proofs.search_for.Reads as search-for-reads
@@ -31,7 +33,7 @@ use native.Mathlib.Omega.{arith}
 use lib.ListN.{length, getD, take, drop}
 use Rattle.model.specs.declared.State.{State}
 use Rattle.model.specs.Session.{lineTurn, lineText}
-use Rattle.model.specs.Tables.{noGuest, noSpace, noPermit, unusedEntry}
+use Rattle.model.specs.Tables.{noGuest, noSpace, noPermit, noCpu, unusedEntry, noCell}
 use Rattle.ready.specs.Usable.{usable}
 use Rattle.digits.specs.Wrote.{Wrote}
 use Rattle.views.specs.Search.{foundBy, leftOf}
@@ -51,19 +53,19 @@ use Rattle.driver.proofs.feed_lines.Tie as tie
 
 -- the inner loop looks for a space
 abbrev pub Inv-loop2 : tie.InvT-loop2
-Inv-loop2 held scratch input out state begun ready at line have i e next buffer request asks row guest token entry search₀ search =
+Inv-loop2 held scratch input out state begun ready at line have i e next buffer request asks row guest cpu token entry search₀ search =
     (foundBy search (state .spaces) ≡ foundBy search₀ (state .spaces)) × (search .looking ≡ true → search .at < 32)
 
 abbrev pub μ-loop2 : tie.MeasureT-loop2
-μ-loop2 held scratch input out state begun ready at line have i e next buffer request asks row guest token entry search₀ search = leftOf search
+μ-loop2 held scratch input out state begun ready at line have i e next buffer request asks row guest cpu token entry search₀ search = leftOf search
 
 -- and the next one for an entry
 abbrev pub Inv-loop3 : tie.InvT-loop3
-Inv-loop3 held scratch input out state begun ready at line have i e next buffer request asks row guest token entry search take₀ take =
+Inv-loop3 held scratch input out state begun ready at line have i e next buffer request asks row guest cpu token entry search take₀ take =
     (takenBy take (state .entries) row ≡ takenBy take₀ (state .entries) row) × WithinList take
 
 abbrev pub μ-loop3 : tie.MeasureT-loop3
-μ-loop3 held scratch input out state begun ready at line have i e next buffer request asks row guest token entry search take₀ take = leftIn take
+μ-loop3 held scratch input out state begun ready at line have i e next buffer request asks row guest cpu token entry search take₀ take = leftIn take
 
 abbrev pub Inv-loop : tie.InvT-loop
 Inv-loop held₀ scratch₀ input out₀ state₀ begun₀ ready₀ at₀ line₀ have₀ i₀ held scratch out state begun ready at line have i =
@@ -75,7 +77,7 @@ abbrev pub μ-loop : tie.MeasureT-loop
 
 -- What is known where the loop stands, where a request is about to be answered, and where the number of the next line is known.
 abbrev pub claims : lts.Claims
-claims = (is-usable-reads.Asked, is-usable-reads.Learnt, stand-reads.Asked, stand-reads.Learnt, line-end-reads.Asked, line-end-reads.Learnt, hold-reads.Asked, hold-reads.Learnt, read-request-reads.Asked, read-request-reads.Learnt, asked-reads.Asked, asked-reads.Learnt, row-reads.Asked, row-reads.Learnt, token-seen-reads.Asked, token-seen-reads.Learnt, entry-place-reads.Asked, entry-place-reads.Learnt, search-for-reads.Asked, search-for-reads.Learnt, advance-reads.Asked, advance-reads.Learnt, take-from-reads.Asked, take-from-reads.Learnt, go-on-reads.Asked, go-on-reads.Learnt, slot-row-reads.Asked, slot-row-reads.Learnt, free-place-reads.Asked, free-place-reads.Learnt, place-of-reads.Asked, place-of-reads.Learnt, answer-reads.Asked, answer-reads.Learnt, wrapping-add-u64-reads.Asked, wrapping-add-u64-reads.Learnt, tell-reads.Asked, tell-reads.Learnt, permits-without-reads.Asked, permits-without-reads.Learnt, entries-without-reads.Asked, entries-without-reads.Learnt, change-reads.Asked, change-reads.Learnt)
+claims = (is-usable-reads.Asked, is-usable-reads.Learnt, stand-reads.Asked, stand-reads.Learnt, line-end-reads.Asked, line-end-reads.Learnt, hold-reads.Asked, hold-reads.Learnt, read-request-reads.Asked, read-request-reads.Learnt, asked-reads.Asked, asked-reads.Learnt, row-reads.Asked, row-reads.Learnt, token-seen-reads.Asked, token-seen-reads.Learnt, entry-place-reads.Asked, entry-place-reads.Learnt, search-for-reads.Asked, search-for-reads.Learnt, advance-reads.Asked, advance-reads.Learnt, take-from-reads.Asked, take-from-reads.Learnt, go-on-reads.Asked, go-on-reads.Learnt, slot-row-reads.Asked, slot-row-reads.Learnt, free-place-reads.Asked, free-place-reads.Learnt, block-place-reads.Asked, block-place-reads.Learnt, beyond-place-reads.Asked, beyond-place-reads.Learnt, place-of-reads.Asked, place-of-reads.Learnt, answer-reads.Asked, answer-reads.Learnt, wrapping-add-u64-reads.Asked, wrapping-add-u64-reads.Learnt, tell-reads.Asked, tell-reads.Learnt, permits-without-reads.Asked, permits-without-reads.Learnt, entries-without-reads.Asked, entries-without-reads.Learnt, change-reads.Asked, change-reads.Learnt)
 
 abbrev pub Top : Type 0
 Top = lts.At-loop claims reads.Pre reads.Post Inv-loop2 μ-loop2 Inv-loop3 μ-loop3 Inv-loop μ-loop
@@ -86,8 +88,21 @@ Before = lts.After-buffer2 claims reads.Pre reads.Post Inv-loop2 μ-loop2 Inv-lo
 abbrev pub Next : Type 0
 Next = lts.After-wrapping-add-u64 claims reads.Pre reads.Post Inv-loop2 μ-loop2 Inv-loop3 μ-loop3 Inv-loop μ-loop
 
+-- earlier in the turn: where the request has been read, and where the line has been found to end
+abbrev pub Read : Type 0
+Read = lts.After-held2 claims reads.Pre reads.Post Inv-loop2 μ-loop2 Inv-loop3 μ-loop3 Inv-loop μ-loop
+
+abbrev pub Found : Type 0
+Found = lts.After-line-end claims reads.Pre reads.Post Inv-loop2 μ-loop2 Inv-loop3 μ-loop3 Inv-loop μ-loop
+
+abbrev pub read : Before → Read
+read c = c .before .before .before .before .before .before .before .before .before .before .before .before .before .before .before .before .before .before .before .before .before .before .before .before .before .before .before .before .before .before
+
+abbrev pub found : Before → Found
+found c = c .before .before .before .before .before .before .before .before .before .before .before .before .before .before .before .before .before .before .before .before .before .before .before .before .before .before .before .before .before .before .before .before .before .before .before .before
+
 abbrev pub top : Before → Top
-top c = c .before .before .before .before .before .before .before .before .before .before .before .before .before .before .before .before .before .before .before .before .before .before .before .before .before .before .before .before .before .before .before .before .before .before .before
+top c = found c .before .before .before
 
 abbrev pub before : Next → Before
 before c = c .before .before .before .before .before
@@ -102,35 +117,42 @@ abbrev pub here : Top → Here
 here t = record { begun = t .loop .begun; ready = t .loop .ready; frames = tables t .frames }
 
 -- what the request has seen is what the tables show
-pub sees : (c : Before) → Sees (tables (top c)) (c .before .before .before .before .before .before .before .before .before .before .before .before .before .before .before .before .before .before .before .before .before .before .before .before .before .before .before .read-request .result) (length (top c .loop .scratch)) (here (top c)) (record {
+pub sees : (c : Before) → Sees (tables (top c)) (read c .before .read-request .result) (length (top c .loop .scratch)) (here (top c)) (record {
   place = c .before .before .before .place-of .result;
-  guest = getD (tables (top c) .guests) (c .before .before .before .before .before .before .before .before .before .before .before .before .before .before .before .before .before .before .before .before .before .before .before .row .result) noGuest;
+  guest = getD (tables (top c) .guests) (c .before .before .before .before .before .before .before .before .before .before .before .before .before .before .before .before .before .before .before .before .before .before .before .before .before .before .before .row .result) noGuest;
   other = c .before .before .place-of2 .result;
-  token = c .before .before .before .before .before .before .before .before .before .before .before .before .before .before .before .before .before .before .before .before .token-seen .result;
-  entry = getD (tables (top c) .entries) (c .before .before .before .before .before .before .before .before .before .before .before .before .before .before .before .before .before .before .before .entry-place .result) unusedEntry;
-  slot = c .before .before .before .before .before .before .before .before .before .before .before .before .before .before .before .before .loop2 .search .at;
-  space = getD (tables (top c) .spaces) (c .before .before .before .before .before .before .before .before .before .before .slot-row .result) noSpace;
-  permit = getD (tables (top c) .permits) (c .before .before .before .before .before .before .before .before .before .before .slot-row .result * 8 + c .before .before .before .before .before .before .before .before .row2 .result) noPermit;
-  free = c .before .before .before .before .before .before .before .before .before .before .before .before .before .loop3 .take .at;
-  unused = getD (tables (top c) .entries) (c .before .before .before .before .before .free-place .result) unusedEntry;
+  token = c .before .before .before .before .before .before .before .before .before .before .before .before .before .before .before .before .before .before .before .before .before .before .before .before .token-seen .result;
+  entry = getD (tables (top c) .entries) (c .before .before .before .before .before .before .before .before .before .before .before .before .before .before .before .before .before .before .before .before .before .before .before .entry-place .result) unusedEntry;
+  slot = c .before .before .before .before .before .before .before .before .before .before .before .before .before .before .before .before .before .before .before .before .loop2 .search .at;
+  space = getD (tables (top c) .spaces) (c .before .before .before .before .before .before .before .before .before .before .before .before .before .before .slot-row .result) noSpace;
+  permit = getD (tables (top c) .permits) (c .before .before .before .before .before .before .before .before .before .before .before .before .before .before .slot-row .result * 8 + c .before .before .before .before .before .before .before .before .before .before .before .before .row2 .result) noPermit;
+  free = c .before .before .before .before .before .before .before .before .before .before .before .before .before .before .before .before .before .loop3 .take .at;
+  unused = getD (tables (top c) .entries) (c .before .before .before .before .before .before .before .before .before .free-place .result) unusedEntry;
+  guard = record {
+    key = getD (tables (top c) .cpus) (c .before .before .before .before .before .before .before .before .before .before .before .before .before .before .before .before .before .before .before .before .before .before .before .before .before .before .before .row .result) noCpu .key;
+    block = getD (tables (top c) .cells) (c .before .before .before .before .before .before .before .block-place .result) noCell;
+    beyond = getD (tables (top c) .cells) (c .before .before .before .before .before .beyond-place .result) noCell;
+  };
 })
 sees c =
-    sees-read _ _ (c .before .before .before .before .before .before .before .before .before .before .before .before .before .before .before .before .before .before .before .before .before .before .before .before .asked .result) _ _ _ (c .before .before .before .before .before .before .before .before .before .before .before .before .before .before .before .before .before .before .before .before .before .before .before .before .asked .ensures)
-    (view-read (tables (top c)) (c .before .before .before .before .before .before .before .before .before .before .before .before .before .before .before .before .before .before .before .before .before .before .before .before .asked .result) (c .before .before .before .before .before .before .before .before .before .before .before .before .before .before .before .before .before .before .before .before .before .before .before .row .result) _ _ _ _ _ _ _ (c .before .before .before .before .before .before .before .before .before .before .before .before .before .before .before .before .loop2 .search) (c .before .before .before .before .before .before .before .before .before .before .before .before .before .before .before .before .before .search-for .result) (c .before .before .before .before .before .before .before .before .before .before .before .before .before .loop3 .take) (c .before .before .before .before .before .before .before .before .before .before .before .before .before .before .take-from .result)
-    (c .before .before .before .before .before .before .before .before .before .before .before .before .before .before .before .before .before .before .before .before .before .before .before .row .ensures .0)
-    (c .before .before .before .before .before .before .before .before .before .before .before .before .before .before .before .before .before .before .before .before .token-seen .ensures)
-    (c .before .before .before .before .before .before .before .before .before .before .before .before .before .before .before .before .before .before .before .entry-place .ensures .0)
-    (c .before .before .before .before .before .before .before .before .before .before .before .before .before .before .before .before .before .search-for .ensures .0)
-    (c .before .before .before .before .before .before .before .before .before .before .before .before .before .before .before .before .loop2 .inv .0)
-    (c .before .before .before .before .before .before .before .before .before .before .before .before .before .before .before .loop2-test .left)
-    (c .before .before .before .before .before .before .before .before .before .before .before .before .before .before .take-from .ensures .0)
-    (c .before .before .before .before .before .before .before .before .before .before .before .before .before .loop3 .inv .0)
-    (c .before .before .before .before .before .before .before .before .before .before .before .before .loop3-test .left)
-    (c .before .before .before .before .before .before .before .before .before .before .slot-row .ensures .0)
-    (c .before .before .before .before .before .before .before .before .row2 .ensures .0)
-    (c .before .before .before .before .before .free-place .ensures .0)
+    sees-read _ _ (c .before .before .before .before .before .before .before .before .before .before .before .before .before .before .before .before .before .before .before .before .before .before .before .before .before .before .before .before .asked .result) _ _ _ (c .before .before .before .before .before .before .before .before .before .before .before .before .before .before .before .before .before .before .before .before .before .before .before .before .before .before .before .before .asked .ensures)
+    (view-read (tables (top c)) (c .before .before .before .before .before .before .before .before .before .before .before .before .before .before .before .before .before .before .before .before .before .before .before .before .before .before .before .before .asked .result) (c .before .before .before .before .before .before .before .before .before .before .before .before .before .before .before .before .before .before .before .before .before .before .before .before .before .before .before .row .result) _ _ _ _ _ _ _ _ _ (c .before .before .before .before .before .before .before .before .before .before .before .before .before .before .before .before .before .before .before .before .loop2 .search) (c .before .before .before .before .before .before .before .before .before .before .before .before .before .before .before .before .before .before .before .before .before .search-for .result) (c .before .before .before .before .before .before .before .before .before .before .before .before .before .before .before .before .before .loop3 .take) (c .before .before .before .before .before .before .before .before .before .before .before .before .before .before .before .before .before .before .take-from .result)
+    (c .before .before .before .before .before .before .before .before .before .before .before .before .before .before .before .before .before .before .before .before .before .before .before .before .before .before .before .row .ensures .0)
+    (c .before .before .before .before .before .before .before .before .before .before .before .before .before .before .before .before .before .before .before .before .before .before .before .before .token-seen .ensures)
+    (c .before .before .before .before .before .before .before .before .before .before .before .before .before .before .before .before .before .before .before .before .before .before .before .entry-place .ensures .0)
+    (c .before .before .before .before .before .before .before .before .before .before .before .before .before .before .before .before .before .before .before .before .before .search-for .ensures .0)
+    (c .before .before .before .before .before .before .before .before .before .before .before .before .before .before .before .before .before .before .before .before .loop2 .inv .0)
+    (c .before .before .before .before .before .before .before .before .before .before .before .before .before .before .before .before .before .before .before .loop2-test .left)
+    (c .before .before .before .before .before .before .before .before .before .before .before .before .before .before .before .before .before .before .take-from .ensures .0)
+    (c .before .before .before .before .before .before .before .before .before .before .before .before .before .before .before .before .before .loop3 .inv .0)
+    (c .before .before .before .before .before .before .before .before .before .before .before .before .before .before .before .before .loop3-test .left)
+    (c .before .before .before .before .before .before .before .before .before .before .before .before .before .before .slot-row .ensures .0)
+    (c .before .before .before .before .before .before .before .before .before .before .before .before .row2 .ensures .0)
+    (c .before .before .before .before .before .before .before .before .before .free-place .ensures .0)
     (c .before .before .before .place-of .ensures)
-    (c .before .before .place-of2 .ensures))
+    (c .before .before .place-of2 .ensures)
+    (c .before .before .before .before .before .before .before .block-place .ensures .0)
+    (c .before .before .before .before .before .beyond-place .ensures .0))
     (top c .loop .inv .1) refl
 
 -- where the loop started, and the line that has ended
@@ -143,7 +165,7 @@ started t =
     (t .before .before .before .before .before .before .before .args .scratch .now) (t .before .before .before .before .before .before .before .args .session .line) (t .before .before .before .before .before .before .before .args .session .have) (t .before .before .before .before .before .before .before .args .held .now)
 
 abbrev pub end : Before → ℕ
-end c = c .before .before .before .before .before .before .before .before .before .before .before .before .before .before .before .before .before .before .before .before .before .before .before .before .before .before .before .before .before .before .before .before .line-end .result
+end c = found c .line-end .result
 
 abbrev pub ended : Before → List ℕ
 ended c = wholeLine (top c .loop .held) (top c .loop .have) (take (end c - top c .loop .i) (drop (top c .loop .i) (input (top c))))
@@ -158,10 +180,10 @@ pub again : (n : Next) (h : Host) (m b out : List ℕ) (o : Outcome) (p : ℕ)
 again n h m b out o p t w =
     let c = before n in
     let inv = top c .loop .inv in
-    let e = c .before .before .before .before .before .before .before .before .before .before .before .before .before .before .before .before .before .before .before .before .before .before .before .before .before .before .before .before .before .before .before .before .line-end .ensures in
-    let less : end c < length (input (top c)) = omega (arith, e .2, c .before .before .before .before .before .before .before .before .before .before .before .before .before .before .before .before .before .before .before .before .before .before .before .before .before .before .before .before .before .before .before .if2 .left) in (
+    let e = found c .line-end .ensures in
+    let less : end c < length (input (top c)) = omega (arith, e .2, c .before .before .before .before .before .before .before .before .before .before .before .before .before .before .before .before .before .before .before .before .before .before .before .before .before .before .before .before .before .before .before .before .before .before .before .if2 .left) in (
       turned (started (top c)) (host (top c)) (input (top c)) _ _ (top c .loop .scratch) (top c .loop .held) (top c .loop .i) (end c) (top c .loop .at) (top c .loop .line) _ (top c .loop .have)
-          (inv .0) (e .0) (e .1) less (inv .2) (omega (arith, c .before .before .before .before .before .before .before .before .before .before .before .before .before .before .before .before .before .before .before .before .before .before .before .before .before .before .before .before .before .before .before .before .before .if1 .left, inv .4)) (n .wrapping-add-u64 .ensures) h m b out o p t w,
+          (inv .0) (e .0) (e .1) less (inv .2) (omega (arith, found c .before .if1 .left, inv .4)) (n .wrapping-add-u64 .ensures) h m b out o p t w,
       t .ready,
       line-starts (input (top c)) (top c .loop .i) (end c) (e .0) (e .1) less,
     )
