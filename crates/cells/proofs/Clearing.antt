@@ -23,7 +23,7 @@ use Rattle.model.proofs.Runs.{d-has}
 use Rattle.model.proofs.Searches.{d-live}
 use Rattle.permitted.specs.Columns.{Filled}
 use Rattle.permitted.proofs.Same.{same, same-by}
-use Rattle.cells.specs.Left.{outside, leftBy, leftAt, Fits, AllFit}
+use Rattle.cells.specs.Left.{Cleared, outside, leftBy, leftAt, Fits, AllFit}
 
 abbrev Outside : Space → ℕ → Type 0
 Outside x f = 1 ≤ x .id → (x .first ≤ f) × (f < x .first + x .pages) → ⊥
@@ -32,52 +32,79 @@ d-outside : (x : Space) (f : ℕ) → Decides (outside x f) (Outside x f)
 unfolding outside
 d-outside x f = d-implies (d-live x) (d-not (d-both (d-le (x .first) f) (d-lt f (x .first + x .pages))))
 
--- so far: the frames from the first of a space up to f
+clear-one : (vs : List ℕ) (f : ℕ) → 512 ≤ length vs → f < 512 → Cleared vs (set vs f 0) f (f + 1)
+clear-one vs f len l = record {
+  long = omega (arith, length-set vs f 0);
+  gone = λ k a b. at-set (λ y. y ≡ 0) vs f 0 k 0 (omega arith) (λ _. refl) (λ q. absurd (omega arith));
+  kept = λ k o. at-set (λ y. y ≡ getD vs k 0) vs f 0 k 0 (omega arith) (λ q. absurd (o (omega arith) (omega arith))) (λ _. refl);
+}
+
+-- two runs that meet or overlap are one
+module _ (ws vs ys : List ℕ) (first f g end : ℕ) (h : Cleared ws vs first f) (n : Cleared vs ys g end) where
+  clear-join : first ≤ g → g ≤ f → f ≤ end → Cleared ws ys first end
+  clear-join low meet high = record {
+    long = n .long;
+    gone = λ k a b. go k a b (decLe g k);
+    kept = λ k o. n .kept k (λ a b. o (omega arith) b) ∙ h .kept k (λ a b. o a (omega arith));
+  }
+    where
+      go : (k : ℕ) → first ≤ k → k < end → Dec (g ≤ k) → getD ys k 0 ≡ 0
+      go k a b (yes l) = n .gone k l b
+      go k a b (no l) = n .kept k (λ c _. l c) ∙ h .gone k a (omega arith)
+
+-- the loop over a run: so far up to f
 pub record Clearing (ws vs : List ℕ) (first end f : ℕ) : Type 0 where
-  pub long : 512 ≤ length vs
   pub low : first ≤ f
   pub high : f ≤ end
   pub inside : end ≤ 512
-  pub gone : (k : ℕ) → first ≤ k → k < f → getD vs k 0 ≡ 0
-  pub kept : (k : ℕ) → (first ≤ k → k < f → ⊥) → getD vs k 0 ≡ getD ws k 0
+  pub cleared : Cleared ws vs first f
 
-module _ (ws : List ℕ) (x : Space) where
-  pub clear-none : 512 ≤ length ws → x .id ≡ 0 → Filled ws (leftBy x ws) 512
-  clear-none len e = record { long = len; at = λ k _. sym (yes! _ 0 (d-outside x k .of (λ l _. omega arith))) }
+pub clear-start : (ws : List ℕ) (first end : ℕ) → 512 ≤ length ws → first ≤ end → end ≤ 512 → Clearing ws ws first end first
+clear-start ws first end len low high = record {
+  low = omega arith;
+  high = low;
+  inside = high;
+  cleared = record { long = len; gone = λ k a b. absurd (omega arith); kept = λ k _. refl };
+}
 
-  pub clear-start : 512 ≤ length ws → Fits x → (x .id ≡ 0 → ⊥) → Clearing ws ws (x .first) (x .first + x .pages) (x .first)
-  clear-start len fits n = record {
-    long = len;
-    low = omega arith;
+module _ (ws vs : List ℕ) (first end f : ℕ) (h : Clearing ws vs first end f) where
+  pub clear-go : f < end → Clearing ws (set vs f 0) first end (f + 1)
+  clear-go l = record {
+    low = omega (arith, h .low);
     high = omega arith;
-    inside = fits .inside (omega arith);
-    gone = λ k a b. absurd (omega arith);
-    kept = λ k _. refl;
+    inside = h .inside;
+    cleared = clear-join ws vs (set vs f 0) first f f (f + 1) (h .cleared) (clear-one vs f (h .cleared .long) (omega (arith, h .inside))) (h .low) (omega arith) (omega arith);
   }
 
-  pub clear-end : (vs : List ℕ) (f : ℕ) → Clearing ws vs (x .first) (x .first + x .pages) f → (x .id ≡ 0 → ⊥) → x .first + x .pages ≤ f → Filled vs (leftBy x ws) 512
-  clear-end vs f h n l = record { long = h .long; at = λ k _. go k (decLe (x .first) k) (decLe (x .first + x .pages) k) }
-    where
-      out : (k : ℕ) → (x .first ≤ k → k < x .first + x .pages → ⊥) → getD vs k 0 ≡ leftBy x ws k
-      out k o = h .kept k (λ a b. o a (omega (arith, h .high))) ∙ sym (yes! _ 0 (d-outside x k .of (λ _ (a, b). o a b)))
+  pub clear-end : end ≤ f → Cleared ws vs first end
+  clear-end l = let q : f ≡ end = omega (arith, h .high) in rw q at (h .cleared)
 
-      go : (k : ℕ) → Dec (x .first ≤ k) → Dec (x .first + x .pages ≤ k) → getD vs k 0 ≡ leftBy x ws k
-      go k (no a) d = out k (λ b _. a b)
-      go k (yes a) (yes b) = out k (λ _ c. omega arith)
-      go k (yes a) (no b) = h .gone k a (omega arith) ∙ sym (no! (getD ws k 0) _ (not-so _ (λ e. d-outside x k .to e (omega arith) (a, omega arith))))
+-- the frames of one space
+module _ (ws : List ℕ) (x : Space) where
+  pub frames-none : 512 ≤ length ws → x .id ≡ 0 → Filled ws (leftBy x ws) 512
+  frames-none len e = record { long = len; at = λ k _. sym (yes! _ 0 (d-outside x k .of (λ l _. omega arith))) }
 
-pub clear-go : (ws vs : List ℕ) (first end f : ℕ) → Clearing ws vs first end f → f < end → Clearing ws (set vs f 0) first end (f + 1)
-clear-go ws vs first end f h l = record {
-  long = omega (arith, length-set vs f 0, h .long);
-  low = omega (arith, h .low);
-  high = omega arith;
-  inside = h .inside;
-  gone = λ k a b. at-set (λ y. y ≡ 0) vs f 0 k 0 room (λ _. refl) (λ q. h .gone k a (omega arith));
-  kept = λ k o. at-set (λ y. y ≡ getD ws k 0) vs f 0 k 0 room (λ q. absurd (o (omega (arith, h .low)) (omega arith))) (λ q. h .kept k (λ a b. o a (omega arith)));
-}
-  where
-    room : f < length vs
-    room = omega (arith, h .long, h .inside)
+  pub frames-inside : Fits x → (x .id ≡ 0 → ⊥) → x .first + x .pages ≤ 512
+  frames-inside fits n = fits .inside (omega arith)
+
+  pub front-inside : Fits x → (x .id ≡ 0 → ⊥) → 16 ≤ x .pages → x .first + 16 ≤ 512
+  front-inside fits n l = omega (arith, frames-inside fits n)
+
+  module _ (n : x .id ≡ 0 → ⊥) (vs : List ℕ) where
+    pub frames-gone : Cleared ws vs (x .first) (x .first + x .pages) → Filled vs (leftBy x ws) 512
+    frames-gone c = record { long = c .long; at = λ k _. go k (decLe (x .first) k) (decLe (x .first + x .pages) k) }
+      where
+        out : (k : ℕ) → (x .first ≤ k → k < x .first + x .pages → ⊥) → getD vs k 0 ≡ leftBy x ws k
+        out k o = c .kept k o ∙ sym (yes! _ 0 (d-outside x k .of (λ _ (a, b). o a b)))
+
+        go : (k : ℕ) → Dec (x .first ≤ k) → Dec (x .first + x .pages ≤ k) → getD vs k 0 ≡ leftBy x ws k
+        go k (no a) d = out k (λ b _. a b)
+        go k (yes a) (yes b) = out k (λ _ d. omega arith)
+        go k (yes a) (no b) = c .gone k a (omega arith) ∙ sym (no! (getD ws k 0) _ (not-so _ (λ e. d-outside x k .to e (omega arith) (a, omega arith))))
+
+    pub frames-twice : (ys : List ℕ) → Cleared ws ys (x .first) (x .first + 16) → Cleared ys vs (x .first + x .pages - 16) (x .first + x .pages) → 16 ≤ x .pages → x .pages ≤ 32 → Filled vs (leftBy x ws) 512
+    frames-twice ys a b low high =
+        frames-gone (clear-join ws ys vs (x .first) (x .first + 16) (x .first + x .pages - 16) (x .first + x .pages) a b (omega arith) (omega arith) (omega arith))
 
 pub fits-at : (ss : List Space) (u : ℕ) → AllFit ss → u < 32 → Fits (spaceAt ss u)
 fits-at ss u h l = h .at u l

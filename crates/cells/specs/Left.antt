@@ -2,13 +2,20 @@
 use Prim.Native.Nat.{ℕ, _+_, _≤_, _<_}
 use mathlib.Core.Bool.{Bool, not}
 use mathlib.Core.List.{List}
+use mathlib.Core.Path.{_≡_}
 use lib.Dec.{leb, ltb}
-use lib.ListN.{getD}
+use lib.ListN.{length, getD}
 use Rattle.lists.specs.Choice.{both, choose, implies}
 use Rattle.model.specs.declared.Space.{Space}
 use Rattle.model.specs.Frames.{frameFree}
 use Rattle.model.specs.Sizes.{slotCount, maxFrames}
 use Rattle.model.specs.Tables.{spaceAt, live}
+
+-- the numbers from the first place up to the end are 0 now, and the others stand
+pub record Cleared (before after : List ℕ) (first end : ℕ) : Type 0 where
+  pub long : 512 ≤ length after
+  pub gone : (k : ℕ) → first ≤ k → k < end → getD after k 0 ≡ 0
+  pub kept : (k : ℕ) → (first ≤ k → k < end → ⊥) → getD after k 0 ≡ getD before k 0
 
 -- the space is not live, or the frame is none of its own
 unfoldable pub outside : Space → (frame : ℕ) → Bool

@@ -1,42 +1,47 @@
 -- `cells::clear_frames` meets its contract. Assumes nothing.
-use Prim.Native.Nat.{_-_}
-use native.Mathlib.Omega.{arith}
 use borrow.Author.Needs.{needs}
-use Rattle.cells.proofs.Clearing.{Clearing, clear-none, clear-start, clear-go, clear-end}
+use Rattle.cells.proofs.Clearing.{frames-none, frames-inside, front-inside, frames-gone, frames-twice}
 use Rattle.cells.proofs.clear_frames.Statement.{statement}
 use Rattle.cells.proofs.clear_frames.Tie as tie
 
-abbrev Inv-loop : tie.InvT-loop
-Inv-loop weights₀ first end f₀ weights f = Clearing weights₀ weights first end f
+returns : tie.Need-returns
+returns c = search frames-none
 
-abbrev μ-loop : tie.MeasureT-loop
-μ-loop weights₀ first end f₀ weights f = end - f
+clear-run-requires : tie.Need-clear-run-requires
+clear-run-requires c κs = search (frames-inside, needs)
 
-returns : tie.Need-returns Inv-loop μ-loop
-returns c = search clear-none
+returns-2 : tie.Need-returns-2
+returns-2 c = search frames-gone
 
-loop-holds : tie.Need-loop-holds Inv-loop μ-loop
-loop-holds c = search clear-start
+clear-run-requires-2 : tie.Need-clear-run-requires-2
+clear-run-requires-2 c κs = search (frames-inside, needs)
 
-loop-again : tie.Need-loop-again Inv-loop μ-loop
-loop-again c = search clear-go
+returns-3 : tie.Need-returns-3
+returns-3 c = search frames-gone
 
-returns-2 : tie.Need-returns-2 Inv-loop μ-loop
-returns-2 c = search clear-end
+clear-run-requires-3 : tie.Need-clear-run-requires-3
+clear-run-requires-3 c κs = search (front-inside, needs)
+
+clear-run-requires-4 : tie.Need-clear-run-requires-4
+clear-run-requires-4 c κs = search (frames-inside, needs)
+
+returns-4 : tie.Need-returns-4
+returns-4 c = search frames-twice
 
 pub clear-frames-spec : {M : Type 1} → statement M
 clear-frames-spec =
     tie.close
     (tie.spec
-    Inv-loop
-    μ-loop
     returns
     (λ c. search needs)
     (λ c. search needs)
     (λ c. search needs)
-    loop-holds
+    clear-run-requires
+    returns-2
+    clear-run-requires-2
+    returns-3
     (λ c. search needs)
+    clear-run-requires-3
     (λ c. search needs)
-    (λ c. search needs)
-    loop-again
-    returns-2)
+    clear-run-requires-4
+    returns-4)
