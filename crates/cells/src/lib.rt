@@ -1,6 +1,6 @@
 // Check 1: the cells. Every key has 4 bits, and a frame that no live space has is blank: key 0, mark off. Each cell becomes one
 // plain number, so that one pass without a way out tells of all of them, many at a time.
-ghost use Prim.Native.Nat.{_+_, _≤_};
+ghost use Prim.Native.Nat.{_≤_};
 ghost use mathlib.Core.Path.{_≡_};
 ghost use lib.ListN.{length, getD};
 ghost use Rattle.lists.specs.Places.{oneIf};
