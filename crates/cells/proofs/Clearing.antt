@@ -3,24 +3,22 @@ use Prim.Native.Nat.{ℕ, _+_, _-_, _≤_, _<_}
 use mathlib.Core.Bool.{Bool, true, false, not}
 use mathlib.Core.List.{List}
 use mathlib.Core.Path.{_≡_, refl, sym, ap, _∙_}
-use native.Mathlib.Decide.{ℕ-discrete, decLe}
+use native.Mathlib.Decide.{decLe}
 use native.Mathlib.Omega.{arith}
 use lib.ListN.{length, getD, set, length-set}
 use Rattle.lists.specs.Choice.{both, choose, implies}
 use Rattle.lists.specs.Decides.{Decides}
 use Rattle.lists.specs.Places.{every}
-use Rattle.lists.proofs.Choice.{not-so, both-left, both-right, both-intro, yes!, no! }
-use Rattle.lists.proofs.Decides.{d-le, d-lt, d-not, d-both, d-implies}
+use Rattle.lists.proofs.Choice.{not-so, yes!, no! }
+use Rattle.lists.proofs.Decides.{d-not, d-implies, every-more}
 use Rattle.lists.proofs.Maps.{at-set}
-use Rattle.lists.proofs.Places.{every-at, every-intro, every-same}
+use Rattle.lists.proofs.Places.{every-intro, every-same}
 use Rattle.model.specs.declared.Space.{Space}
-use Rattle.model.specs.Frames.{frameOf, hasFrame, frameFree}
-use Rattle.model.specs.Sound.{HasFrame}
+use Rattle.model.specs.Frames.{hasFrame, frameFree}
 use Rattle.model.specs.Tables.{spaceAt, live}
-use Rattle.model.proofs.Runs.{d-has}
+use Rattle.model.proofs.Runs.{d-in-run, has-run}
 use Rattle.model.proofs.Searches.{d-live}
 use Rattle.permitted.specs.Columns.{Filled}
-use Rattle.permitted.proofs.Same.{same, same-by}
 use Rattle.cells.specs.Left.{Cleared, outside, leftBy, leftAt, Fits, AllFit}
 
 abbrev Outside : Space → ℕ → Type 0
@@ -28,7 +26,7 @@ Outside x f = 1 ≤ x .id → (x .first ≤ f) × (f < x .first + x .pages) → 
 
 d-outside : (x : Space) (f : ℕ) → Decides (outside x f) (Outside x f)
 unfolding outside
-d-outside x f = d-implies (d-live x) (d-not (d-both (d-le (x .first) f) (d-lt f (x .first + x .pages))))
+d-outside x f = d-implies (d-live x) (d-not (d-in-run (x .first) (x .pages) f))
 
 clear-one : (vs : List ℕ) (f : ℕ) → 512 ≤ length vs → f < 512 → Cleared vs (set vs f 0) f (f + 1)
 clear-one vs f len l = record {
@@ -109,26 +107,8 @@ fits-at ss u h l = h .at u l
 
 -- the frames of a space as the model has them
 outside-is : (ss : List Space) (u f : ℕ) → outside (spaceAt ss u) f ≡ implies (live (spaceAt ss u)) (not (hasFrame ss ss u f))
-unfolding outside frameOf
-outside-is ss u f = ap (λ b. implies (live (spaceAt ss u)) (not b)) (same-by
-    (d-both (d-le (spaceAt ss u .first) f) (d-lt f (spaceAt ss u .first + spaceAt ss u .pages)))
-    (d-has ss ss u f) to of)
-  where
-    to : (spaceAt ss u .first ≤ f) × (f < spaceAt ss u .first + spaceAt ss u .pages) → HasFrame ss ss u f
-    to (a, b) = (f - spaceAt ss u .first, omega arith, omega arith)
-
-    of : HasFrame ss ss u f → (spaceAt ss u .first ≤ f) × (f < spaceAt ss u .first + spaceAt ss u .pages)
-    of (p, b, e) = (omega arith, omega arith)
-
--- one more place tested
-every-more : (p : ℕ → Bool) (n : ℕ) → every p (n + 1) ≡ both (every p n) (p n)
-every-more p n = same _ _
-    (λ h. both-intro _ _ (every-intro p n (λ k l. every-at p (n + 1) h k (omega arith))) (every-at p (n + 1) h n (omega arith)))
-    (λ h. every-intro p (n + 1) (λ k l. go h k l (ℕ-discrete k n)))
-  where
-    go : both (every p n) (p n) ≡ true → (k : ℕ) → k < n + 1 → Dec (k ≡ n) → p k ≡ true
-    go h k l (yes e) = rw e (both-right (every p n) _ h)
-    go h k l (no e) = every-at p n (both-left _ _ h) k (omega arith)
+unfolding outside
+outside-is ss u f = ap (λ b. implies (live (spaceAt ss u)) (not b)) (sym (has-run ss u f))
 
 choose-both : (a b : Bool) (w : ℕ) → choose b (choose a w 0) 0 ≡ choose (both a b) w 0
 unfolding choose both

@@ -9,10 +9,9 @@ use lib.Dec.{leb, eqb}
 use borrow.Author.Tests.{le-ltb, lt-ltb}
 use Rattle.lists.specs.Places.{every, oneIf}
 use Rattle.lists.proofs.Choice.{yes!, no! }
-use Rattle.lists.proofs.Decides.{d-le, d-eq, d-isnt, d-both, d-every}
+use Rattle.lists.proofs.Decides.{d-le, d-eq, d-isnt, d-both, d-every, same-by}
 use Rattle.model.specs.declared.Cell.{Cell}
 use Rattle.model.specs.SoundTest.{blankTest}
-use Rattle.permitted.proofs.Same.{same-by}
 use Rattle.cells.specs.Weights.{weightOf, larger, mostOf}
 
 -- the larger of two numbers

@@ -3,11 +3,11 @@ use Prim.Native.Nat.{ℕ, _+_, _≤_, _<_}
 use mathlib.Core.Bool.{Bool, not}
 use mathlib.Core.List.{List}
 use mathlib.Core.Path.{_≡_}
-use lib.Dec.{leb, ltb}
 use lib.ListN.{length, getD}
-use Rattle.lists.specs.Choice.{both, choose, implies}
+use Rattle.lists.specs.Choice.{choose, implies}
 use Rattle.model.specs.declared.Space.{Space}
 use Rattle.model.specs.Frames.{frameFree}
+use Rattle.model.specs.Leaves.{inRun}
 use Rattle.model.specs.Sizes.{slotCount, maxFrames}
 use Rattle.model.specs.Tables.{spaceAt, live}
 
@@ -19,7 +19,7 @@ pub record Cleared (before after : List ℕ) (first end : ℕ) : Type 0 where
 
 -- the space is not live, or the frame is none of its own
 unfoldable pub outside : Space → (frame : ℕ) → Bool
-outside x f = implies (live x) (not (both (leb (x .first) f) (ltb f (x .first + x .pages))))
+outside x f = implies (live x) (not (inRun (x .first) (x .pages) f))
 
 abbrev pub leftBy : Space → List ℕ → (frame : ℕ) → ℕ
 leftBy x ws f = choose (outside x f) (getD ws f 0) 0

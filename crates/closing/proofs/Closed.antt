@@ -19,8 +19,8 @@ use Rattle.model.specs.declared.Permit.{Permit}
 use Rattle.model.specs.Changes.{revoked, listOwner, unpermitted, blanked, revokedAll}
 use Rattle.model.specs.Tables.{noPermit, unusedEntry, noCell}
 use Rattle.model.proofs.Reset.{standing-stays}
+use Rattle.model.specs.Leaves.{inRun}
 use Rattle.losses.specs.Looks.{keptList}
-use Rattle.closing.specs.Run.{inRun}
 use Rattle.closing.specs.Slot.{losesSlot}
 use Rattle.closing.proofs.Ranges.{map-map, mapRange, before, inside, beyond, Ranged, range-start, range-go, range-length}
 use Rattle.closing.proofs.Runs.{run-put, slot-run}

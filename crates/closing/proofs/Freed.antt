@@ -8,36 +8,29 @@ use native.Mathlib.Decide.{decLe}
 use native.Mathlib.Omega.{arith}
 use lib.Dec.{eqb}
 use borrow.Author.Tests.{eqb-true, eq-eqb}
+use Rattle.lists.proofs.Decides.{same-by}
 use Rattle.model.specs.declared.Space.{Space}
 use Rattle.model.specs.declared.State.{State}
 use Rattle.model.specs.Changes.{freed}
-use Rattle.model.specs.Frames.{frameOf, hasFrame}
+use Rattle.model.specs.Frames.{frameOf}
+use Rattle.model.specs.Leaves.{inRun}
 use Rattle.model.specs.Sizes.{slotCount, maxFrames}
 use Rattle.model.specs.Sound.{Sound}
 use Rattle.model.specs.SoundTest.{sound}
 use Rattle.model.specs.Tables.{spaceAt}
-use Rattle.model.proofs.Runs.{d-has}
+use Rattle.model.proofs.Runs.{d-has, has-run}
 use Rattle.model.proofs.SoundTest.{sound-decides}
 use Rattle.model.proofs.Withdraw.{d-freed}
-use Rattle.closing.specs.Run.{inRun, RunsInside}
-use Rattle.closing.proofs.Runs.{same-test, d-run}
+use Rattle.closing.specs.Run.{RunsInside}
 
 module _ (ss : List Space) (u : ℕ) where
   -- the frames of the space in slot u
   abbrev run : (frame : ℕ) → Bool
   run = inRun (spaceAt ss u .first) (spaceAt ss u .pages)
 
-  pub has-run : (f : ℕ) → hasFrame ss ss u f ≡ run f
-  unfolding frameOf
-  has-run f =
-      let i = spaceAt ss u .first in
-      same-test (d-has ss ss u f) (d-run i (spaceAt ss u .pages) f)
-      (λ (p, b, e). (omega arith, omega arith))
-      (λ (low, high). (f - i, omega arith, omega arith))
-
   pub freed-run : u < slotCount → freed ss ss (eqb u) ≡ run
   freed-run b = fun-ext (λ f.
-      same-test (d-freed ss ss (eqb u) f) (d-has ss ss u f) (λ (v, _, (e, h)). rw (eqb-true u v e) h) (λ h. (u, b, (eq-eqb u u refl, h))) ∙ has-run f)
+      same-by (d-freed ss ss (eqb u) f) (d-has ss ss u f) (λ (v, _, (e, h)). rw (eqb-true u v e) h) (λ h. (u, b, (eq-eqb u u refl, h))) ∙ has-run ss u f)
 
 -- for search
 pub run-inside : (ss : List Space) (u : ℕ) → RunsInside ss → spaceAt ss u .first + spaceAt ss u .pages ≤ maxFrames

@@ -23,7 +23,7 @@ use Rattle.model.specs.declared.State.{State}
 use Rattle.model.specs.Changes.{revoked, vacated, unpermitted, loses, revokedAll, blanked, withdrawn, applied}
 use Rattle.model.specs.Tables.{noSpace, spaceAt, withSpaces, withPermits, withEntries, withCells}
 use Rattle.model.proofs.Withdraw.{none-freed}
-use Rattle.closing.specs.Run.{inRun}
+use Rattle.model.specs.Leaves.{inRun}
 use Rattle.closing.specs.Slot.{losesSlot, slotClosed}
 use Rattle.closing.proofs.Freed.{freed-run}
 

@@ -7,7 +7,7 @@ use native.Mathlib.Omega.{arith}
 use lib.Dec.{leb}
 use borrow.Author.Tests.{leb-true, leb-false}
 use Rattle.lists.specs.Choice.{both, either}
-use Rattle.lists.proofs.Choice.{true-or-false, either-left}
+use Rattle.lists.proofs.Choice.{true-or-false, both-true, both-same, either-left, either-no}
 use Rattle.model.specs.declared.Cell.{Cell}
 use Rattle.model.specs.declared.State.{State}
 use Rattle.model.specs.Frames.{layout, frameOf}
@@ -17,21 +17,6 @@ use Rattle.model.specs.Tables.{cellAt}
 use Rattle.model.proofs.Keys.{two-blocks}
 use Rattle.keys.specs.declared.Guard.{Guard}
 use Rattle.keys.specs.Guards.{guardAllows}
-
-both-true : (b : Bool) → both b true ≡ b
-unfolding both
-both-true true = refl
-both-true false = refl
-
-either-last : {a : Bool} (b : Bool) → a ≡ false → either a b ≡ b
-unfolding either
-either-last b e = rw e
-
--- a test twice is the test
-both-same : (b : Bool) → both b b ≡ b
-unfolding both
-both-same true = refl
-both-same false = refl
 
 -- the guard of an access from address a on in slot u: the second block is asked about only where the access reaches it
 module _ (s : State) (w : Bool) (u a n : ℕ) (g : Guard) (some : 1 ≤ n) (few : n ≤ frameSize) (here : g .block ≡ blockAt s u a) where
@@ -62,7 +47,7 @@ module _ (s : State) (w : Bool) (u a n : ℕ) (g : Guard) (some : 1 ≤ n) (few 
       let h = leb-false (a % frameSize + n) frameSize e in
       let q : (a + (n - 1)) / frameSize ≡ a / frameSize + 1 = omega arith in
       ap (λ c. both (allowsKey w (g .key) c) rest) here
-      ∙ ap (both first) (either-last _ e ∙ ap (allowsKey w (g .key)) (next h))
+      ∙ ap (both first) (either-no _ e ∙ ap (allowsKey w (g .key)) (next h))
       ∙ sym (two ∙ ap (λ p. both first (allowsKey w (g .key) (cellAt (s .cells) (frameOf (layout s) u p)))) q)
 
   pub guarded : (frameSize < a % frameSize + n → g .beyond ≡ cellAt (s .cells) (frameOf (layout s) u (a / frameSize + 1)))

@@ -10,7 +10,7 @@ use borrow.Author.Tests.{eq-eqb, lt-ltb, le-leb, leb-true}
 use Rattle.lists.specs.Choice.{both, implies}
 use Rattle.lists.specs.Places.{allFrom, every}
 use Rattle.lists.proofs.Choice.{both-left, both-right, both-intro, both-yes, implies-to, implies-of}
-use Rattle.lists.proofs.Decides.{d-le, d-lt}
+use Rattle.lists.proofs.Decides.{d-le, d-lt, same, same-by}
 use Rattle.lists.proofs.Places.{all-at, all-intro, every-at, every-intro, every-same}
 use Rattle.model.specs.declared.Entry.{Entry}
 use Rattle.model.specs.declared.Guest.{Guest}
@@ -19,7 +19,6 @@ use Rattle.model.specs.declared.Space.{Space}
 use Rattle.model.specs.declared.Standing.{Standing}
 use Rattle.model.specs.SoundTest.{standingTest, untouchedTest, entryTest, entriesTest}
 use Rattle.model.specs.Tables.{unusedEntry}
-use Rattle.permitted.proofs.Same.{same, same-by}
 use Rattle.permitted.specs.Columns.{guestOn}
 use Rattle.listed.specs.Standings.{entryOn, standingWith, standingsWith, aboveTest}
 

@@ -10,7 +10,7 @@ use lib.ListN.{getD}
 use borrow.Author.Tests.{eq-eqb, ne-eqb, ltb-true}
 use Rattle.lists.specs.Choice.{choose, both, either}
 use Rattle.lists.proofs.Choice.{true-false, not-so, true-or-false, both-yes, both-no, yes!, no!, choose-same}
-use Rattle.lists.proofs.Decides.{d-eq}
+use Rattle.lists.proofs.Decides.{d-eq, same-by}
 use Rattle.model.specs.declared.Grant.{Grant}
 use Rattle.model.specs.declared.Grant.the-variants.{Nothing, Reading, Writing}
 use Rattle.model.specs.declared.Guest.{Guest}
@@ -28,7 +28,6 @@ use Rattle.model.proofs.SoundTest.{permits-decides}
 use Rattle.permitted.specs.Columns.{ownerIn, OwnersOf, numberAt, PowersOf}
 use Rattle.permitted.specs.Elements.{placeOf, Owned, grantNumber, powerWith}
 use Rattle.permitted.proofs.Permits.{number-is}
-use Rattle.permitted.proofs.Same.{same-by}
 use Rattle.listed.specs.Standings.{rightRank, validWith, standingWith}
 
 -- a right's rank against a permit's number

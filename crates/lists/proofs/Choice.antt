@@ -84,6 +84,16 @@ unfolding both
 both-when true b c f = f refl
 both-when false b c f = refl
 
+pub both-true : (b : Bool) → both b true ≡ b
+unfolding both
+both-true true = refl
+both-true false = refl
+
+pub both-same : (b : Bool) → both b b ≡ b
+unfolding both
+both-same true = refl
+both-same false = refl
+
 pub both-comm : (a b : Bool) → both a b ≡ both b a
 unfolding both
 both-comm true true = refl
@@ -106,6 +116,10 @@ pub either-right : (a b : Bool) → b ≡ true → either a b ≡ true
 unfolding either
 either-right true b e = refl
 either-right false b e = e
+
+pub either-no : {a : Bool} (b : Bool) → a ≡ false → either a b ≡ b
+unfolding either
+either-no b e = rw e
 
 pub either-none : (a b : Bool) → a ≡ false → b ≡ false → either a b ≡ false
 unfolding either

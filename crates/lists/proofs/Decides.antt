@@ -2,7 +2,8 @@
 use Prim.Native.Nat.{ℕ, _+_, _-_, _≤_, _<_}
 use mathlib.Core.Bool.{Bool, true, false, not}
 use mathlib.Core.Logic.{_⊎_, inl, inr, ⊎-elim}
-use mathlib.Core.Path.{_≡_}
+use mathlib.Core.Path.{_≡_, refl, sym}
+use native.Mathlib.Decide.{decLe}
 use native.Mathlib.Omega.{arith}
 use lib.Dec.{leb, ltb, eqb}
 use borrow.Author.Tests.{eqb-true, ltb-true, leb-true, eq-eqb, le-leb, lt-ltb}
@@ -82,3 +83,39 @@ d-from m n p = d-map
     (λ h i l u. let e : i ≡ i - m + m = omega arith in rw e (h (i - m) (omega arith)))
     (λ h k l. h (k + m) (omega arith) (omega arith))
     (d-every n p)
+
+-- two tests that say the same are the same
+pub same : (a b : Bool) → (a ≡ true → b ≡ true) → (b ≡ true → a ≡ true) → a ≡ b
+same true b f g = sym (f refl)
+same false b f g = sym (not-so b (λ e. true-false (g e) refl))
+
+-- by what they decide
+pub same-by : {a b : Bool} {P Q : Type 0} → Decides a P → Decides b Q → (P → Q) → (Q → P) → a ≡ b
+same-by {a} {b} p q f g = same a b (λ e. q .of (f (p .to e))) (λ e. p .of (g (q .to e)))
+
+-- one place more
+module _ (p : ℕ → Bool) (n : ℕ) where
+  pub every-more : every p (n + 1) ≡ both (every p n) (p n)
+  every-more = same-by
+      (d-every (n + 1) (λ k. d-is (p k)))
+      (d-both (d-every n (λ k. d-is (p k))) (d-is (p n)))
+      (λ h. ((λ k b. h k (omega arith)), h n (omega arith)))
+      (λ h k b. go h k b (decLe n k))
+    where
+      go : ((k : ℕ) → k < n → p k ≡ true) × (p n ≡ true) → (k : ℕ) → k < n + 1 → Dec (n ≤ k) → p k ≡ true
+      go h k b (yes l) = let q : k ≡ n = omega arith in rw q (h .1)
+      go h k b (no l) = h .0 k (omega arith)
+
+  pub some-more : some p (n + 1) ≡ either (some p n) (p n)
+  some-more = same-by
+      (d-some (n + 1) (λ k. d-is (p k)))
+      (d-either (d-some n (λ k. d-is (p k))) (d-is (p n)))
+      (λ (k, b, e). apart k b e (decLe n k)) together
+    where
+      apart : (k : ℕ) → k < n + 1 → p k ≡ true → Dec (n ≤ k) → ((k : ℕ) × (k < n) × (p k ≡ true)) ⊎ (p n ≡ true)
+      apart k b e (yes h) = inr (let q : n ≡ k = omega arith in rw q e)
+      apart k b e (no h) = inl (k, omega arith, e)
+
+      together : ((k : ℕ) × (k < n) × (p k ≡ true)) ⊎ (p n ≡ true) → (k : ℕ) × (k < n + 1) × (p k ≡ true)
+      together (inl (k, b, e)) = (k, omega arith, e)
+      together (inr e) = (n, omega arith, e)

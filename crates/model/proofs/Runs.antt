@@ -1,13 +1,13 @@
 -- The searches for what is free find the lowest, and find none only where there is none, in every state, sound or not.
 -- Assumes nothing.
-use Prim.Native.Nat.{ℕ, _+_, _<_}
+use Prim.Native.Nat.{ℕ, _+_, _-_, _≤_, _<_}
 use mathlib.Core.Bool.{not}
 use mathlib.Core.List.{List}
 use mathlib.Core.Path.{_≡_, ap}
 use native.Mathlib.Omega.{arith}
 use Rattle.lists.specs.Decides.{Decides}
 use Rattle.lists.specs.Lowest.{Lowest}
-use Rattle.lists.proofs.Decides.{d-le, d-eq, d-not, d-both, d-implies, d-map, d-every, d-some}
+use Rattle.lists.proofs.Decides.{d-le, d-eq, d-not, d-both, d-implies, d-map, d-every, d-some, d-lt, same-by}
 use Rattle.lists.proofs.Lowest.{lowest-decided}
 use Rattle.model.specs.declared.Entry.{Entry}
 use Rattle.model.specs.declared.Space.{Space}
@@ -15,6 +15,7 @@ use Rattle.model.specs.declared.Standing.{Standing}
 use Rattle.model.specs.declared.Standing.the-variants.{Unused}
 use Rattle.model.specs.declared.State.{State}
 use Rattle.model.specs.Frames.{Layout, layout, frameOf, hasFrame, frameFree}
+use Rattle.model.specs.Leaves.{inRun}
 use Rattle.model.specs.Runs.{IsRun}
 use Rattle.model.specs.Searches.{freeSlot, runFree, runIn, freeRun, isUnused, freeEntry}
 use Rattle.model.specs.Sizes.{slotCount}
@@ -29,6 +30,17 @@ d-unused x = record { to = unused-is x; of = λ e. ap isUnused e }
 pub d-has : (l : Layout) (ss : List Space) (u f : ℕ) → Decides (hasFrame l ss u f) (HasFrame l ss u f)
 unfolding hasFrame
 d-has l ss u f = d-some (spaceAt ss u .pages) (λ p. d-eq (frameOf l u p) f)
+
+-- the frames of a space are a run
+pub d-in-run : (i n f : ℕ) → Decides (inRun i n f) ((i ≤ f) × (f < i + n))
+unfolding inRun
+d-in-run i n f = d-both (d-le i f) (d-lt f (i + n))
+
+pub has-run : (ss : List Space) (u f : ℕ) → hasFrame ss ss u f ≡ inRun (spaceAt ss u .first) (spaceAt ss u .pages) f
+unfolding frameOf
+has-run ss u f =
+    let i = spaceAt ss u .first in
+    same-by (d-has ss ss u f) (d-in-run i (spaceAt ss u .pages) f) (λ (p, b, e). (omega arith, omega arith)) (λ (low, high). (f - i, omega arith, omega arith))
 
 pub d-frame : (l : Layout) (ss : List Space) (f : ℕ) → Decides (frameFree l ss f) (Free l ss f)
 unfolding frameFree

@@ -1,9 +1,10 @@
 -- Definitions that leaves of the code are proved equal to, where the paper's own definitions name something larger.
-use Prim.Native.Nat.{ℕ}
+use Prim.Native.Nat.{ℕ, _+_}
 use mathlib.Core.Bool.{Bool, false}
 use mathlib.Core.List.{List}
+use lib.Dec.{leb, ltb}
 use lib.ListN.{getD, length}
-use Rattle.lists.specs.Choice.{choose}
+use Rattle.lists.specs.Choice.{choose, both}
 use Rattle.model.specs.declared.Call.{Call}
 use Rattle.model.specs.declared.Guest.{Guest}
 use Rattle.model.specs.declared.State.{State}
@@ -20,6 +21,10 @@ callerPlace gs g = choose (enrolled gs g) (guestPlace g) 8
 -- a set of slots as a table of Booleans
 abbrev pub flag : List Bool → (slot : ℕ) → Bool
 flag l u = getD l u false
+
+-- f is one of n places from i on, as a frame is one of a run of frames
+unfoldable pub inRun : (first size : ℕ) → (place : ℕ) → Bool
+inRun i n f = both (leb i f) (ltb f (i + n))
 
 -- scratch and the lent buffer after the checks 2 and 3 and the call
 unfoldable pub scratchJudged : State → Call → (scratch buffer : List ℕ) → List ℕ

@@ -1,4 +1,3 @@
 pub mod Tables
-pub mod Same
 pub mod Counting
 pub mod Permits

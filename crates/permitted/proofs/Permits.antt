@@ -10,7 +10,7 @@ use lib.ListN.{length, getD}
 use borrow.Author.Tests.{eq-eqb, ne-eqb, le-leb}
 use Rattle.lists.specs.Choice.{choose, both, implies}
 use Rattle.lists.proofs.Choice.{true-false, both-yes, both-no, both-intro, yes!, no! }
-use Rattle.lists.proofs.Decides.{d-eq, d-le, d-every}
+use Rattle.lists.proofs.Decides.{d-eq, d-le, d-every, same-by}
 use Rattle.lists.proofs.Places.{every-same}
 use Rattle.model.specs.declared.Grant.{Grant}
 use Rattle.model.specs.declared.Grant.the-variants.{Nothing, Reading, Writing}
@@ -23,7 +23,6 @@ use Rattle.model.specs.Searches.{enrolled}
 use Rattle.model.specs.SoundTest.{permitTest, permitsTest}
 use Rattle.model.specs.Tables.{spaceAt, live, guestAt, grantAt}
 use Rattle.model.proofs.Searches.{live-of}
-use Rattle.permitted.proofs.Same.{same-by}
 use Rattle.permitted.specs.Columns.{Filled, guestOn, Owners, ownerIn, OwnersOf, numberAt, mayAt, limitAt, Excess, permitWith, permitsWith, powerAt, Powers, Permits}
 use Rattle.permitted.specs.Elements.{Owned, OwnerIs, grantNumber, mayBe}
 

@@ -12,7 +12,7 @@ use Rattle.lists.specs.Choice.{choose}
 use Rattle.lists.specs.Decides.{Decides}
 use Rattle.lists.proofs.Choice.{both-no, yes!, no! }
 use Rattle.lists.proofs.Counts.{count-same}
-use Rattle.lists.proofs.Decides.{d-eq, d-both, d-not}
+use Rattle.lists.proofs.Decides.{d-eq, d-both, d-not, same-by}
 use Rattle.lists.proofs.Places.{every-at}
 use Rattle.model.specs.declared.Guest.{Guest}
 use Rattle.model.specs.declared.Space.{Space}
@@ -24,7 +24,6 @@ use Rattle.model.proofs.Searches.{d-live, enrolled-guest}
 use Rattle.model.proofs.SoundParts.{slot-decides}
 use Rattle.permitted.specs.Columns.{Filled, Owners, ownerIn, OwnersOf}
 use Rattle.permitted.specs.Elements.{Owned, OwnerIs}
-use Rattle.permitted.proofs.Same.{same-by}
 use Rattle.sound.specs.Columns.{tagAt, slotsTest, tagCount}
 use Rattle.sound.specs.Elements.{tagOf}
 

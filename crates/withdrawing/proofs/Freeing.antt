@@ -3,41 +3,27 @@
 use Prim.Native.Nat.{ℕ, _+_, _≤_, _<_}
 use mathlib.Core.Bool.{Bool, true, false}
 use mathlib.Core.List.{List}
-use mathlib.Core.Logic.{_⊎_, inl, inr}
 use mathlib.Core.Path.{_≡_, refl, sym, ap, fun-ext, _∙_}
-use native.Mathlib.Decide.{decLe}
 use native.Mathlib.Omega.{arith}
 use lib.ListN.{length}
 use borrow.Author.Tests.{le-ltb}
 use Rattle.lists.specs.Choice.{choose, both, either}
 use Rattle.lists.specs.Places.{lowest, some}
 use Rattle.lists.proofs.Choice.{not-so, no!, choose-elim, both-yes, both-no}
-use Rattle.lists.proofs.Decides.{d-is, d-either, d-some}
+use Rattle.lists.proofs.Decides.{some-more}
 use Rattle.lists.proofs.Maps.{length-mapPlaces, map-alike, map-same}
 use Rattle.model.specs.declared.Cell.{Cell}
 use Rattle.model.specs.declared.Space.{Space}
 use Rattle.model.specs.Changes.{freed, blanked}
 use Rattle.model.specs.Frames.{hasFrame}
+use Rattle.model.specs.Leaves.{inRun}
 use Rattle.model.specs.Searches.{isData}
 use Rattle.model.specs.Tables.{noCell, spaceAt}
-use Rattle.closing.specs.Run.{inRun, RunsInside}
+use Rattle.model.proofs.Runs.{d-in-run, has-run}
+use Rattle.closing.specs.Run.{RunsInside}
 use Rattle.closing.proofs.Closed.{cells-done}
-use Rattle.closing.proofs.Freed.{has-run}
 use Rattle.closing.proofs.Ranges.{Ranged, map-map}
-use Rattle.closing.proofs.Runs.{same-test, d-run}
 use Rattle.withdrawing.specs.Sets.{slotsOf}
-
--- one place more
-some-more : (p : ℕ → Bool) (n : ℕ) → some p (n + 1) ≡ either (some p n) (p n)
-some-more p n = same-test (d-some (n + 1) (λ k. d-is (p k))) (d-either (d-some n (λ k. d-is (p k))) (d-is (p n))) (λ (k, b, e). apart k b e (decLe n k)) together
-  where
-    apart : (k : ℕ) → k < n + 1 → p k ≡ true → Dec (n ≤ k) → ((k : ℕ) × (k < n) × (p k ≡ true)) ⊎ (p n ≡ true)
-    apart k b e (yes h) = inr (let q : n ≡ k = omega arith in rw q e)
-    apart k b e (no h) = inl (k, omega arith, e)
-
-    together : ((k : ℕ) × (k < n) × (p k ≡ true)) ⊎ (p n ≡ true) → (k : ℕ) × (k < n + 1) × (p k ≡ true)
-    together (inl (k, b, e)) = (k, omega arith, e)
-    together (inr e) = (n, omega arith, e)
 
 choose-twice : {A : Type 0} (s t : Bool) (a x : A) → choose s a (choose t a x) ≡ choose (either t s) a x
 unfolding choose either
@@ -70,7 +56,7 @@ module _ (ss : List Space) (gone : ℕ → Bool) where
       rw e
       (choose-elim (λ m. inRun i m f ≡ both (gone u) (hasFrame ss ss u f)) (gone u) (spaceAt ss u .pages) 0
       (λ y. sym (both-yes _ y ∙ has-run ss u f))
-      (λ z. not-so _ (λ t. let (low, high) = d-run i 0 f .to t in omega arith) ∙ sym (both-no _ z)))
+      (λ z. not-so _ (λ t. let (low, high) = d-in-run i 0 f .to t in omega arith) ∙ sym (both-no _ z)))
 
   freed-more : (cs a : List Cell) (u n : ℕ) → a ≡ blanked (freedBelow u) cs → n ≡ choose (gone u) (spaceAt ss u .pages) 0
       → blanked (inRun (spaceAt ss u .first) n) a ≡ blanked (freedBelow (u + 1)) cs
