@@ -63,6 +63,7 @@ pub record MakeEffect (s : State) (g k n : ℕ) (d : Decision) : Type 0 where
   pub others : (u : ℕ) → u ≢ slot → spaceAt (after s d .spaces) u ≡ spaceAt (s .spaces) u
   pub next : after s d .next ≡ s .next + 1
   pub value : value (d .answer) ≡ s .next
+  pub blank : (p : ℕ) → p < n → cellAt (after s d .cells) (start + p) ≡ noCell
   pub zeros : (m b : List ℕ) → bytesOf (after s d) slot (scratchAfter (after s d) (d .effect) m b) ≡ replicate (n * 4096) 0
 
 pub record EnrolEffect (s : State) (g : ℕ) (x : Settings) (d : Decision) : Type 0 where
@@ -164,6 +165,7 @@ make-does s hs g name pages c d ok fine to m =
       others = λ v ne. ap (λ (y : State). spaceAt (y .spaces) v) to ∙ getD-set-other (s .spaces) u v x noSpace ne;
       next = ap (λ (y : State). y .next) to;
       value = refl;
+      blank = λ p b. ap (λ (y : State). cellAt (y .cells) (freeRun s pages + p)) to ∙ ok .cells .free (freeRun s pages + p) (lowest-run s pages .found (m .run) .free p b);
       zeros = λ k b. clear-own (applied s c) (rw (m .is) at fine) u k (rw there (ok .head .next-low)) ∙ ap (λ (y : Space). replicate (y .pages * 4096) 0) there;
     })
 

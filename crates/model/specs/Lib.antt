@@ -1,4 +1,5 @@
--- Paper 01 as executable definitions, in its order and under its headings. This folder is what a reader has to believe.
+-- Paper 01 as executable definitions, in its order and under its headings; what a request of paper 02 adds stands at its place and
+-- says which request it is of. This folder is what a reader has to believe.
 
 -- "Sizes"
 pub mod Sizes
@@ -16,6 +17,7 @@ pub mod Changes
 pub mod Decision
 pub mod Classes
 pub mod Arguments
+-- of M-100, "Storage keys on each block"
 pub mod Keys
 pub mod Calls
 pub mod Granted
