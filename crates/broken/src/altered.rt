@@ -1,6 +1,8 @@
-// A sound state with one clause of soundness broken, each alone. The program's arguments say what the clauses are, in order.
-use crate::states;
+// The sound state, as it is and with one thing altered: most alterations break one clause of soundness alone, and some, beside
+// one that does, are sound. The program's arguments say what they are, in order.
+use crate::calls;
 use model::BASE;
+use model::Cell;
 use model::Entry;
 use model::Grant;
 use model::Permit;
@@ -8,7 +10,7 @@ use model::Right;
 use model::Standing;
 use model::State;
 
-pub const COUNT: u32 = 37;
+pub const COUNT: u32 = 50;
 
 fn head(mut s: State, k: u32) -> State {
     match k {
@@ -42,7 +44,7 @@ fn dead_space(mut s: State, k: u32) -> State {
     let mut x = s.spaces[3];
     match k {
         12 => x.owner = 1,
-        13 => x.name = states::temp(),
+        13 => x.name = calls::TEMP,
         14 => x.first = 5,
         _ => x.pages = 1,
     }
@@ -50,13 +52,13 @@ fn dead_space(mut s: State, k: u32) -> State {
     s
 }
 
-// Guest 1, who is enrolled.
+// Guest 1, who is enrolled, and the mode of guest 2, who is too.
 fn enrolled_guest(mut s: State, k: u32) -> State {
     let mut g = s.guests[0];
     let mut x = s.spaces[0];
     let mut c = s.cpus[1];
     match k {
-        16 => x.name = states::name(1),
+        16 => x.name = calls::WORK,
         17 => g.allowance = 0,
         18 => g.allowance = 32,
         19 => g.list = 0,
@@ -129,6 +131,43 @@ fn list_entry(mut s: State, k: u32) -> State {
     s
 }
 
+// Frame 2 is TEMP's, frame 3 is free, and the eight frames end before frame 8.
+fn cell(mut s: State, k: u32) -> State {
+    let marked = Cell { key: 0, mark: true };
+    match k {
+        37 => s.cells[2] = Cell {
+            key: 16,
+            mark: false,
+        },
+        38 => s.cells[2] = Cell {
+            key: 15,
+            mark: false,
+        },
+        39 => s.cells[2] = marked,
+        40 => s.cells[3] = Cell {
+            key: 1,
+            mark: false,
+        },
+        41 => s.cells[3] = marked,
+        42 => s.cells[8] = Cell {
+            key: 1,
+            mark: false,
+        },
+        _ => s.cells[511] = marked,
+    }
+    s
+}
+
+// Guest 2 is enrolled, guest 3 is not.
+fn access_key(mut s: State, k: u32) -> State {
+    match k {
+        44 => s.cpus[1].key = 16,
+        45 => s.cpus[1].key = 15,
+        _ => s.cpus[2].key = 1,
+    }
+    s
+}
+
 pub(crate) fn state(s: State, k: u32) -> State {
     if k < 4 {
         return head(s, k);
@@ -148,5 +187,24 @@ pub(crate) fn state(s: State, k: u32) -> State {
     if k < 32 {
         return permit(s, k);
     }
-    list_entry(s, k)
+    if k < 37 {
+        return list_entry(s, k);
+    }
+    if k < 44 {
+        return cell(s, k);
+    }
+    if k < 47 {
+        return access_key(s, k);
+    }
+    s
+}
+
+// How long scratch is: that of 8 frames, but for the last three.
+pub(crate) fn room(k: u32) -> usize {
+    match k {
+        47 => 32767,
+        48 => 32769,
+        49 => 0,
+        _ => 32768,
+    }
 }
