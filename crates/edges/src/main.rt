@@ -1,319 +1,188 @@
-// The public face on states that no session reaches. Each line says what was asked, and then the answers' numbers and values.
-mod broken;
-mod states;
-
+// The public face on what no session reaches: up to 512 frames, 32 spaces, the last identification, a free frame before the first
+// space. The program's arguments are lines as a session has them, each carried out on the tables and the scratch that the line
+// before it left; all of it is done twice, by `serve` alone and with FETCH, STORE, KEY and BLOCK by their own functions. Each line
+// is printed with the answer's number and value; the first and the last byte of the buffer, if it has one, which a fetch finds
+// filled with 170; and, after a bar each, frame, key and mark of every frame that has a key or a mark. A line that is no request
+// is a heading.
 use model::Answer;
-use model::Caller;
+use model::Call;
+use model::Cell;
+use model::Operation;
 use model::Reply;
-use model::Right;
-use model::Settings;
+use model::Request;
 use model::State;
-
-fn guest(g: u32) -> Caller {
-    Caller { guest: g }
-}
-
-// The settings of a guest with a primary space alone.
-fn alone(pages: u32) -> Settings {
-    Settings {
-        pages: pages,
-        allowance: 0,
-        share: 0,
-        list: 1,
-        asf: 0,
-    }
-}
 
 fn print(n: u32) {
     io::write_all(1, b" ");
     io::print_decimal(1, n as u64);
 }
 
-fn print_number(a: Answer) {
-    print(spaces::number(a));
+fn print_byte(b: u8) {
+    print(b as u32);
 }
 
-fn print_answer(a: Answer) {
-    print_number(a);
+fn told_answer(a: Answer) {
+    io::write_all(1, b":");
+    print(spaces::number(a));
     print(spaces::value(a));
 }
 
-// A line of one answer.
-fn told(what: &[u8], a: Answer) {
-    io::write_all(1, what);
-    print_answer(a);
+fn told_buffer(buffer: &[u8]) {
+    if buffer.len() == 0 {
+        return;
+    }
+    io::write_all(1, b", bytes");
+    print_byte(buffer[0]);
+    print_byte(buffer[buffer.len() - 1]);
+}
+
+fn told_cell(f: u32, c: Cell) {
+    if c.key == 0 {
+        if !c.mark {
+            return;
+        }
+    }
+    io::write_all(1, b" |");
+    print(f);
+    print(c.key as u32);
+    print(c.mark as u32);
+}
+
+fn told_cells(s: State) {
+    for f in 0..512u32 {
+        told_cell(f, s.cells[f as usize]);
+    }
     io::write_all(1, b"\n");
 }
 
-fn told_reply(what: &[u8], r: Reply) {
+fn answered(a: Answer, s: State) -> Reply {
+    Reply {
+        answer: a,
+        state: s,
+    }
+}
+
+// By the calls' own functions, where there is one here.
+fn by_itself(s: State, scratch: &mut [u8], call: Call, buffer: &mut [u8]) -> Reply {
+    let caller = call.caller;
+    let operation = call.operation;
+    match operation {
+        Operation::Fetch { register, address } => {
+            answered(
+                spaces::fetch(s, scratch, caller, register, address, buffer),
+                s,
+            )
+        }
+        Operation::Store { register, address } => {
+            answered(
+                spaces::store(s, scratch, caller, register, address, buffer),
+                s,
+            )
+        }
+        Operation::Key { key } => spaces::key(s, scratch, caller, key),
+        Operation::Block {
+            id,
+            address,
+            key,
+            mark,
+        } => spaces::block(s, scratch, caller, id, address, key, mark),
+        _ => spaces::serve(s, scratch, call, buffer),
+    }
+}
+
+fn reply(s: State, scratch: &mut [u8], call: Call, buffer: &mut [u8], own: bool) -> Reply {
+    if own {
+        return by_itself(s, scratch, call, buffer);
+    }
+    spaces::serve(s, scratch, call, buffer)
+}
+
+// The state's own part of scratch is lent, and as much of `bytes` as the request is long.
+fn carried_out(
+    s: State,
+    scratch: &mut [u8],
+    call: Call,
+    length: u32,
+    bytes: &mut [u8],
+    own: bool,
+) -> State {
+    let size = s.frames as usize * 4096;
+    let n = length as usize;
+    if scratch.len() < size {
+        return s;
+    }
+    if bytes.len() < n {
+        return s;
+    }
+    let r = reply(s, &mut scratch[0..size], call, &mut bytes[0..n], own);
     let a = r.answer;
-    told(what, a);
+    told_answer(a);
+    told_buffer(&bytes[0..n]);
+    told_cells(r.state);
+    r.state
 }
 
-fn number_of(r: Reply) {
+fn begun(frames: u32) -> State {
+    let r = spaces::fresh(frames);
     let a = r.answer;
-    print_number(a);
+    told_answer(a);
+    told_cells(r.state);
+    r.state
 }
 
-// The calls that write scratch, with `room` bytes of it.
-fn enrol_with(s: State, room: usize) {
-    let mut scratch = [0u8; 32769];
-    if room <= 32769 {
-        number_of(spaces::enrol(s, &mut scratch[0..room], guest(3), alone(1)));
+// Two headings alter the tables: nothing else leads there, or not in a run that is short enough.
+fn altered(mut s: State, heading: &[u8]) -> State {
+    io::write_all(1, b"\n");
+    if check::same(heading, b"next identification 65535") {
+        s.next = 65535;
+        return s;
+    }
+    if check::same(heading, b"the first space in frame 1") {
+        s.spaces[0].first = 1;
+        return s;
+    }
+    s
+}
+
+// The length of `bytes` is known from its type.
+fn asked(
+    s: State,
+    scratch: &mut [u8],
+    request: Request,
+    bytes: &mut [u8; 257],
+    heading: &[u8],
+    own: bool,
+) -> State {
+    match request {
+        Request::Frames { frames } => begun(frames),
+        Request::Call { call, length } => carried_out(s, scratch, call, length, bytes, own),
+        Request::NotRead => altered(s, heading),
     }
 }
 
-fn create_with(s: State, room: usize) {
-    let mut scratch = [0u8; 32769];
-    if room <= 32769 {
-        number_of(spaces::create(s, &mut scratch[0..room], guest(1), states::name(1), 1));
-    }
-}
-
-fn store_with(s: State, room: usize) {
-    let mut scratch = [0u8; 32769];
-    if room <= 32769 {
-        print_number(spaces::store(s, &mut scratch[0..room], guest(1), 0, 0, b"A"));
-    }
-}
-
-// The calls between CREATE and FETCH, in the paper's order.
-fn table_calls(s: State, scratch: &[u8]) {
-    let c = guest(1);
-    number_of(spaces::destroy(s, scratch, c, 3));
-    number_of(spaces::permit(s, scratch, c, 3, 2, Right::Read));
-    number_of(spaces::isolate(s, scratch, c, 3));
-    print_number(spaces::query(s, scratch, c, 1, states::temp()));
-    number_of(spaces::add(s, scratch, c, 3, Right::Write));
-    number_of(spaces::remove(s, scratch, guest(2), 2));
-    number_of(spaces::load(s, scratch, c, 1, 2));
-    number_of(spaces::mode(s, scratch, c, 1));
-}
-
-// Every kind of call, in the paper's order: the numbers alone.
-fn all_calls(s: State, room: usize) {
-    let scratch = [0u8; 32769];
-    let mut buffer = [0u8; 1];
-    if room <= 32769 {
-        let lent = &scratch[0..room];
-        enrol_with(s, room);
-        create_with(s, room);
-        table_calls(s, lent);
-        print_number(spaces::fetch(s, lent, guest(1), 0, 0, &mut buffer));
-        store_with(s, room);
-        number_of(spaces::reset(s, lent, guest(1)));
-        io::write_all(1, b"\n");
-    }
-}
-
-fn fresh_states() {
-    told_reply(b"fresh 0:", spaces::fresh(0));
-    told_reply(b"fresh 1:", spaces::fresh(1));
-    told_reply(b"fresh 512:", spaces::fresh(512));
-    told_reply(b"fresh 513:", spaces::fresh(513));
-    told_reply(b"fresh 4294967295:", spaces::fresh(4294967295));
-}
-
-// The program's arguments say what the clauses are, in order.
-fn print_clause(k: u32) {
+fn line(s: State, scratch: &mut [u8], i: usize, own: bool) -> State {
     let mut text = io::buffer();
-    let n = os::arg(k as usize + 1, &mut text);
-    io::write_all(1, b"clause broken, ");
+    let mut bytes = [170u8; 257];
+    let n = os::arg(i, &mut text);
     io::write_all(1, &text[..n]);
-    io::write_all(1, b":");
+    let request = lines::read_line(&text[..n], &mut bytes);
+    asked(s, scratch, request, &mut bytes, &text[..n], own)
 }
 
-fn clause(s: State, k: u32) {
-    print_clause(k);
-    all_calls(broken::state(s, k), 32768);
-}
-
-fn each_clause(s: State) {
-    let mut k: u32 = 0;
-    while k < broken::COUNT {
-        clause(s, k);
-        k += 1;
+fn each_line(scratch: &mut [u8; 2097152], own: bool) {
+    let count = os::arg_count();
+    let mut s = spaces::fresh(0).state;
+    let mut i: usize = 1;
+    while i < count {
+        s = line(s, scratch, i, own);
+        i += 1;
     }
-}
-
-// The sound state that the others are made from, and that state with each clause of soundness broken alone.
-fn clauses() {
-    let s = states::shared();
-    io::write_all(1, b"sound:");
-    all_calls(s, 32768);
-    each_clause(s);
-}
-
-fn scratch_lengths() {
-    let s = states::shared();
-    io::write_all(1, b"scratch a byte short:");
-    all_calls(s, 32767);
-    io::write_all(1, b"scratch a byte long:");
-    all_calls(s, 32769);
-    io::write_all(1, b"scratch empty:");
-    all_calls(s, 0);
-}
-
-// 32 live spaces: guest 1 has some of its allowance left, guest 2 none.
-fn slots_used() {
-    let mut scratch = [0u8; 131072];
-    let s = states::full();
-    told_reply(
-        b"32 spaces, ENROL:",
-        spaces::enrol(s, &mut scratch, guest(3), alone(1)),
-    );
-    told_reply(
-        b"32 spaces, CREATE:",
-        spaces::create(s, &mut scratch, guest(1), states::name(40), 1),
-    );
-    told_reply(
-        b"32 spaces, allowance used, CREATE:",
-        spaces::create(s, &mut scratch, guest(2), states::name(40), 1),
-    );
-}
-
-// The last identification, and none left: 11 comes before 10.
-fn identifications() {
-    let mut scratch = [0u8; 32768];
-    let mut s = states::shared();
-    s.next = 65535;
-    told_reply(
-        b"next identification 65535, CREATE:",
-        spaces::create(s, &mut scratch, guest(1), states::name(1), 1),
-    );
-    s.next = 65536;
-    told_reply(
-        b"next identification 65536, CREATE:",
-        spaces::create(s, &mut scratch, guest(1), states::name(1), 1),
-    );
-    told_reply(
-        b"next identification 65536, ENROL:",
-        spaces::enrol(s, &mut scratch, guest(3), alone(1)),
-    );
-    told_reply(
-        b"next identification 65536, no run of 8 frames, ENROL:",
-        spaces::enrol(s, &mut scratch, guest(3), alone(8)),
-    );
-}
-
-fn print_first(r: Reply) {
-    let s = r.state;
-    let x = s.spaces[1];
-    io::write_all(1, b"placed at frame:");
-    print(x.first as u32);
-    io::write_all(1, b"\n");
-}
-
-// Frames 0 and 2 of 3 are free.
-fn free_frames() {
-    let mut scratch = [0u8; 12288];
-    let s = states::middle_used();
-    told_reply(
-        b"frames 0 and 2 of 3 free, two pages:",
-        spaces::create(s, &mut scratch, guest(1), states::name(1), 2),
-    );
-    let r = spaces::create(s, &mut scratch, guest(1), states::name(1), 1);
-    told_reply(b"frames 0 and 2 of 3 free, one page:", r);
-    print_first(r);
-}
-
-// A fetch and a store of n bytes.
-fn fetch_of(s: State, scratch: &[u8], n: usize) {
-    let mut buffer = [0u8; 257];
-    if n <= 257 {
-        print_number(spaces::fetch(s, scratch, guest(1), 0, 0, &mut buffer[0..n]));
-    }
-}
-
-fn store_of(s: State, n: usize) {
-    let mut scratch = [0u8; 32768];
-    let buffer = [0u8; 257];
-    if n <= 257 {
-        print_number(spaces::store(s, &mut scratch, guest(1), 0, 0, &buffer[0..n]));
-    }
-}
-
-fn lengths() {
-    let scratch = [0u8; 32768];
-    let s = states::shared();
-    io::write_all(1, b"FETCH of 0, 1, 256, 257:");
-    fetch_of(s, &scratch, 0);
-    fetch_of(s, &scratch, 1);
-    fetch_of(s, &scratch, 256);
-    fetch_of(s, &scratch, 257);
-    io::write_all(1, b"\nSTORE of 0, 1, 256, 257:");
-    store_of(s, 0);
-    store_of(s, 1);
-    store_of(s, 256);
-    store_of(s, 257);
-    io::write_all(1, b"\n");
-}
-
-// A refused fetch leaves the buffer; a done one fills it.
-fn fetch_two(s: State, address: u32) {
-    let scratch = [0u8; 32768];
-    let mut buffer = [170u8; 2];
-    told(
-        b"FETCH of two bytes:",
-        spaces::fetch(s, &scratch, guest(1), 0, address, &mut buffer),
-    );
-    io::write_all(1, b"filled with 170 before, now");
-    if check::same(&buffer, &[170, 170]) {
-        io::write_all(1, b" 170\n");
-    } else {
-        io::write_all(1, b" other\n");
-    }
-}
-
-fn buffers() {
-    let s = states::shared();
-    fetch_two(s, 4095);
-    fetch_two(s, 4094);
-}
-
-// 512 frames, all of one space: the first and the last byte, and the first beyond.
-fn largest(scratch: &mut [u8; 2097152]) {
-    let most = Settings {
-        pages: 512,
-        allowance: 31,
-        share: 1,
-        list: 30,
-        asf: 1,
-    };
-    let r = spaces::enrol(spaces::fresh(512).state, scratch, guest(8), most);
-    told_reply(b"512 frames, ENROL of 512 pages:", r);
-    let s = r.state;
-    told(
-        b"512 frames, STORE at 0:",
-        spaces::store(s, scratch, guest(8), 0, 0, b"A"),
-    );
-    told(
-        b"512 frames, STORE at 2097151:",
-        spaces::store(s, scratch, guest(8), 0, 2097151, b"A"),
-    );
-    told(
-        b"512 frames, STORE at 2097152:",
-        spaces::store(s, scratch, guest(8), 0, 2097152, b"A"),
-    );
-    told_reply(
-        b"512 frames, none free, CREATE:",
-        spaces::create(s, scratch, guest(8), states::name(1), 1),
-    );
-    told_reply(
-        b"512 frames, ENROL of 513 pages:",
-        spaces::enrol(s, scratch, guest(1), alone(513)),
-    );
 }
 
 fn main() {
     let mut scratch = [0u8; 2097152];
-    fresh_states();
-    clauses();
-    scratch_lengths();
-    slots_used();
-    identifications();
-    free_frames();
-    lengths();
-    buffers();
-    largest(&mut scratch);
+    io::write_all(1, b"== by serve\n");
+    each_line(&mut scratch, false);
+    io::write_all(1, b"== by their own functions\n");
+    each_line(&mut scratch, true);
 }
