@@ -1,12 +1,13 @@
 // Runs one of the calls many times over full tables, for `bench/calls` to time:
 //
-//     rounds CALL LAYER SIZE ROUNDS
+//     rounds CALL LAYER SIZE ROUNDS [KEYS]
 //
 // CALL is 1 to 13 in the paper's order (ENROL, CREATE, DESTROY, PERMIT, ISOLATE, QUERY, ADD, REMOVE, LOAD, MODE, FETCH, STORE,
-// RESET), 14 for the soundness test alone and 15 for a round that makes no call. LAYER is 0 for the public face, which tests
-// each time whether the state is sound, and 1 for the inner layer. SIZE is the number of pages for ENROL and CREATE, and of
-// bytes for FETCH and STORE. It prints CALL, LAYER and a checksum of answers, tables and bytes, which both layers share. With no
-// arguments it makes a few rounds of everything.
+// RESET), 14 for the soundness test alone, 15 for a round that makes no call, 16 for KEY and 17 for BLOCK. LAYER is 0 for the
+// public face, which tests each time whether the state is sound, and 1 for the inner layer. SIZE is the number of pages for ENROL
+// and CREATE, and of bytes for FETCH and STORE. KEYS is 0, or left out, for tables whose keys are all 0, and 1 for tables with a
+// key and the mark in every block, which is every guest's access key too. It prints CALL, LAYER, KEYS and a checksum of answers,
+// tables and bytes, which both layers share. With no arguments it makes a few rounds of everything.
 ghost use Prim.Native.Nat.{_≤_};
 
 mod checked;
@@ -44,17 +45,17 @@ fn argument(k: usize) -> u32 {
 }
 
 // Tables on which the call is done.
-fn tables(scratch: &mut [u8], call: u32) -> State {
+fn tables(scratch: &mut [u8], call: u32, keys: u32) -> State {
     if call == turn::ENROL {
-        return setup::without_one_guest(scratch);
+        return setup::without_one_guest(scratch, keys);
     }
     if call == turn::CREATE {
-        return setup::with_room(scratch);
+        return setup::with_room(scratch, keys);
     }
     if call == turn::ADD {
-        return setup::with_room(scratch);
+        return setup::with_room(scratch, keys);
     }
-    setup::full(scratch)
+    setup::full(scratch, keys)
 }
 
 fn rounds(
@@ -87,19 +88,20 @@ fn put(n: u64, end: &[u8]) {
     io::write_all(1, end);
 }
 
-fn run(scratch: &mut [u8], buffer: &mut [u8], call: u32, layer: u32, size: u32, n: u32) {
-    let s = tables(scratch, call);
+fn run(scratch: &mut [u8], buffer: &mut [u8], call: u32, layer: u32, size: u32, n: u32, keys: u32) {
+    let s = tables(scratch, call, keys);
     let m = least(size, buffer.len());
     let sum = rounds(s, scratch, &mut buffer[0..m], call, layer, size, n);
     put(call as u64, b" ");
     put(layer as u64, b" ");
+    put(keys as u64, b" ");
     put(sum, b"\n");
 }
 
-// A few rounds of each call in both layers, with 16 pages or bytes.
+// A few rounds of each call in both layers, with 16 pages or bytes, without keys and with them.
 fn run_all(scratch: &mut [u8], buffer: &mut [u8]) {
-    for k in 0..30u32 {
-        run(scratch, buffer, k / 2 + 1, k % 2, 16, 24);
+    for k in 0..68u32 {
+        run(scratch, buffer, k / 4 + 1, k % 2, 16, 24, k / 2 % 2);
     }
 }
 
@@ -116,6 +118,7 @@ fn start(scratch: &mut [u8; 2097152], buffer: &mut [u8; 256]) {
         argument(2),
         argument(3),
         argument(4),
+        argument(5),
     );
 }
 

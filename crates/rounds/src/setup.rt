@@ -14,6 +14,9 @@ const FILLING: u32 = 1272;
 // With them, those that make room again: 8 REMOVE and a DESTROY.
 const FREEING: u32 = 1281;
 
+// With both, those that set keys: 512 BLOCK and 8 KEY.
+const KEYING: u32 = 1801;
+
 const SPACE1: u64 = 6003370060464332832;
 
 const SPACE2: u64 = 6003370060464398368;
@@ -110,6 +113,22 @@ fn put(k: u32) -> Call {
     )
 }
 
+// Key 5 and the mark for each block of each space, and the same access key for each guest.
+fn protect(k: u32) -> Call {
+    if k < 512 {
+        return from(
+            k / 64 + 1,
+            Operation::Block {
+                id: k / 16 + 1,
+                address: k % 16 * 4096,
+                key: 5,
+                mark: 1,
+            },
+        );
+    }
+    from(k - 511, Operation::Key { key: 5 })
+}
+
 fn call(k: u32) -> Call {
     if k < 32 {
         return make(k);
@@ -132,7 +151,10 @@ fn call(k: u32) -> Call {
     if k < 1280 {
         return from(k - 1271, Operation::Remove { token: 31 });
     }
-    from(8, Operation::Destroy { id: 32 })
+    if k == 1280 {
+        return from(8, Operation::Destroy { id: 32 });
+    }
+    protect(k - 1281)
 }
 
 // A guest above the last makes no call.
@@ -147,26 +169,36 @@ fn step(s: State, scratch: &mut [u8], k: u32, last: u32) -> State {
     r.state
 }
 
-fn after(scratch: &mut [u8], last: u32, calls: u32) -> State {
-    let r = spaces::fresh(512);
-    let mut s = r.state;
-    for k in 0..calls {
+// The calls from one to before another, by guests up to the last.
+fn after(before: State, scratch: &mut [u8], last: u32, first: u32, end: u32) -> State {
+    let mut s = before;
+    for k in first..end {
         s = step(s, scratch, k, last);
     }
     s
 }
 
+// Where there are to be keys, they are set last.
+fn made(scratch: &mut [u8], last: u32, calls: u32, keys: u32) -> State {
+    let r = spaces::fresh(512);
+    let s = after(r.state, scratch, last, 0, calls);
+    if keys == 0 {
+        return s;
+    }
+    after(s, scratch, last, FREEING, KEYING)
+}
+
 // Full tables: 8 guests, 32 spaces, 512 frames used, 224 permits, 240 valid entries.
-pub(crate) fn full(scratch: &mut [u8]) -> State {
-    after(scratch, 8, FILLING)
+pub(crate) fn full(scratch: &mut [u8], keys: u32) -> State {
+    made(scratch, 8, FILLING, keys)
 }
 
 // Nothing of guest 8: its ENROL can be done.
-pub(crate) fn without_one_guest(scratch: &mut [u8]) -> State {
-    after(scratch, 7, FILLING)
+pub(crate) fn without_one_guest(scratch: &mut [u8], keys: u32) -> State {
+    made(scratch, 7, FILLING, keys)
 }
 
 // A slot, its 16 frames and the last entry of each list are free: one more CREATE and one more ADD can be done.
-pub(crate) fn with_room(scratch: &mut [u8]) -> State {
-    after(scratch, 8, FREEING)
+pub(crate) fn with_room(scratch: &mut [u8], keys: u32) -> State {
+    made(scratch, 8, FREEING, keys)
 }

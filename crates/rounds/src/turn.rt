@@ -34,6 +34,10 @@ pub const RESET: u32 = 13;
 
 pub const SOUND: u32 = 14;
 
+pub const KEY: u32 = 16;
+
+pub const BLOCK: u32 = 17;
+
 // SPACE4 and two blanks: a name that no guest has used yet.
 pub const NEW: u64 = 6003370060464529440;
 
@@ -108,6 +112,19 @@ pub(crate) fn address(i: u32) -> u32 {
     i % 1024
 }
 
+pub(crate) fn key(i: u32) -> u32 {
+    i / 8 % 16
+}
+
+pub(crate) fn mark(i: u32) -> u32 {
+    i / 128 % 2
+}
+
+// Where one of the sixteen blocks of a space starts.
+pub(crate) fn block(i: u32) -> u32 {
+    i / 32 % 16 * 4096
+}
+
 fn byte(x: u8) -> u64 {
     x as u64
 }
@@ -131,6 +148,22 @@ pub(crate) fn tasted(r: Reply, i: u32) -> u64 {
     let t = r.state;
     let e = t.entries[(i % 240) as usize];
     plus(told(a), byte(e.sequence))
+}
+
+// The same of KEY, with the access key that it set.
+pub(crate) fn tasted_key(r: Reply, i: u32) -> u64 {
+    let a = r.answer;
+    let t = r.state;
+    let c = t.cpus[(i % 8) as usize];
+    plus(told(a), byte(c.key))
+}
+
+// The same of BLOCK, with the key of the frame that it set: the spaces' frames are in the order of their identifications.
+pub(crate) fn tasted_cell(r: Reply, i: u32) -> u64 {
+    let a = r.answer;
+    let t = r.state;
+    let b = t.cells[(i % 8 * 64 + i / 8 % 4 * 16 + i / 32 % 16) as usize];
+    plus(told(a), byte(b.key))
 }
 
 // The same of a fetch, with the last byte that it brought.

@@ -7,10 +7,10 @@ use Rattle.rounds.proofs.run_all.Statement.{statement}
 use Rattle.rounds.proofs.run_all.Tie as tie
 
 abbrev Inv-loop : tie.InvT-loop
-Inv-loop scratch₀ buffer₀ k₀ scratch buffer k = (length scratch ≡ length scratch₀) × ((length buffer ≡ length buffer₀) × (k ≤ 30))
+Inv-loop scratch₀ buffer₀ k₀ scratch buffer k = (length scratch ≡ length scratch₀) × ((length buffer ≡ length buffer₀) × (k ≤ 68))
 
 abbrev μ-loop : tie.MeasureT-loop
-μ-loop scratch₀ buffer₀ k₀ scratch buffer k = 30 - k
+μ-loop scratch₀ buffer₀ k₀ scratch buffer k = 68 - k
 
 pub run-all-spec : {M : Type 1} → statement M
 run-all-spec =
