@@ -3,8 +3,8 @@
 ghost use Prim.Native.Nat.{_+_, _≤_, _<_};
 ghost use mathlib.Core.Path.{_≡_};
 ghost use lib.Dec.{eqb};
-ghost use Rattle.model.specs.Leaves.{inRun};
 ghost use Rattle.model.specs.Changes.{unpermitted, revokedAll, blanked};
+ghost use Rattle.model.specs.Leaves.{inRun};
 ghost use Rattle.model.specs.Sizes.{maxFrames};
 ghost use Rattle.closing.specs.Slot.{losesSlot};
 use model::Cell;
