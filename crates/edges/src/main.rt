@@ -97,7 +97,7 @@ fn reply(s: State, scratch: &mut [u8], call: Call, buffer: &mut [u8], own: bool)
     spaces::serve(s, scratch, call, buffer)
 }
 
-// The state's own part of scratch is lent, and as much of `bytes` as the request is long.
+// The state's own part of scratch is lent, and as much of `bytes` as the request is long: no line here asks for more.
 fn carried_out(
     s: State,
     scratch: &mut [u8],
