@@ -41,9 +41,9 @@ use Rattle.keys.specs.Guards.{guardAllows}
 use Rattle.transfer.specs.Transferred.{RunIn, inside, placeIn, fetchAnswer, fetched, storeAnswer, stored}
 use Rattle.transfer.proofs.Lending.{ends}
 use Rattle.translation.specs.Translated.{translatedBy}
-use Rattle.views.specs.declared.Asks.{Asks}
+use Rattle.asks.specs.declared.Asks.{Asks}
 use Rattle.views.specs.declared.View.{View}
-use Rattle.views.specs.Asks.{asksBy}
+use Rattle.asks.specs.Asks.{asksBy}
 use Rattle.views.specs.Views.{viewOf}
 use Rattle.views.proofs.Judged.{judged-bad, judged-good}
 use Rattle.access.specs.Access.{Fetches, Stores}

@@ -41,9 +41,10 @@ use Rattle.keys.proofs.Guarded.{guarded}
 use Rattle.transfer.specs.Transferred.{RunIn, inside}
 use Rattle.translation.specs.Translated.{tokenPlace, translatedBy}
 use Rattle.translation.proofs.Translated.{translated-is, named-place}
-use Rattle.views.specs.declared.Asks.{Asks}
+use Rattle.asks.specs.declared.Asks.{Asks}
 use Rattle.views.specs.declared.View.{View}
-use Rattle.views.specs.Asks.{moving, asksBy, tokenBy}
+use Rattle.asks.specs.Asks.{moving, asksBy}
+use Rattle.views.specs.Token.{tokenBy}
 use Rattle.views.specs.Search.{soughtBy, searchUsing, searchThrough, slotIn, foundBy}
 use Rattle.views.specs.Views.{cellPlace, viewOf}
 use Rattle.views.proofs.Cells.{cell-frame}

@@ -14,7 +14,7 @@ use Rattle.model.specs.Leaves.{scratchJudged, bufferJudged}
 use Rattle.model.specs.Replies.{callOf}
 use Rattle.model.specs.SoundTest.{sound}
 use Rattle.views.specs.declared.View.{View}
-use Rattle.views.specs.Asks.{asksBy}
+use Rattle.asks.specs.Asks.{asksBy}
 use Rattle.views.specs.Views.{viewOf}
 
 pub record Fetches (v : View) (register address : ℕ) (m b : List ℕ) (x : Answer) (b' : List ℕ) : Type 0 where

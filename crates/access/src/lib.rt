@@ -98,7 +98,7 @@ pub fn fetch(
         register: register,
         address: address,
     };
-    let v = views::seen_in(s, views::asked_by(Call { caller, operation }));
+    let v = views::seen_in(s, asks::asked_by(Call { caller, operation }));
     fetch_seen(v, scratch, register, address, buffer)
 }
 
@@ -118,6 +118,6 @@ pub fn store(
         register: register,
         address: address,
     };
-    let v = views::seen_in(s, views::asked_by(Call { caller, operation }));
+    let v = views::seen_in(s, asks::asked_by(Call { caller, operation }));
     store_seen(v, scratch, register, address, bytes)
 }

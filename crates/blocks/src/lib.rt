@@ -78,6 +78,6 @@ pub fn block(s: State, caller: Caller, id: u32, address: u32, key: u32, mark: u3
         key,
         mark,
     };
-    let v = views::seen_in(s, views::asked_by(Call { caller, operation }));
+    let v = views::seen_in(s, asks::asked_by(Call { caller, operation }));
     edits::carried(s, decide_block(v, id, address, key, mark))
 }

@@ -45,7 +45,7 @@ pub fn load(s: State, caller: Caller, register: u32, value: u32) -> Reply
     ensures { λ r. ⌜ r ≡ replied s (judge s (callOf caller (Load register value)) 0) ⌝ }
 {
     let operation = Operation::Load { register, value };
-    let v = views::seen_in(s, views::asked_by(Call { caller, operation }));
+    let v = views::seen_in(s, asks::asked_by(Call { caller, operation }));
     edits::carried(s, decide_load(v, register, value))
 }
 
@@ -87,7 +87,7 @@ pub fn mode(s: State, caller: Caller, mode: u32) -> Reply
     ensures { λ r. ⌜ r ≡ replied s (judge s (callOf caller (Mode mode)) 0) ⌝ }
 {
     let operation = Operation::Mode { mode };
-    let v = views::seen_in(s, views::asked_by(Call { caller, operation }));
+    let v = views::seen_in(s, asks::asked_by(Call { caller, operation }));
     edits::carried(s, decide_mode(v, mode))
 }
 
@@ -115,6 +115,6 @@ pub fn key(s: State, caller: Caller, key: u32) -> Reply
     ensures { λ r. ⌜ r ≡ replied s (judge s (callOf caller (Key key)) 0) ⌝ }
 {
     let operation = Operation::Key { key };
-    let v = views::seen_in(s, views::asked_by(Call { caller, operation }));
+    let v = views::seen_in(s, asks::asked_by(Call { caller, operation }));
     edits::carried(s, decide_key(v, key))
 }

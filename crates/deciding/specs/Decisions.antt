@@ -17,7 +17,7 @@ use Rattle.model.specs.SoundTest.{sound}
 use Rattle.edits.specs.declared.Edited.{Edited}
 use Rattle.edits.specs.Edits.{changeOf, Fits}
 use Rattle.views.specs.declared.View.{View}
-use Rattle.views.specs.Asks.{asksBy}
+use Rattle.asks.specs.Asks.{asksBy}
 use Rattle.views.specs.Views.{viewOf}
 use Rattle.deciding.specs.declared.Decision.{Decision}
 use Rattle.deciding.specs.declared.Decision.the-variants.{Made, Closes, NeedsTables}

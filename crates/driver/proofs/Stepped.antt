@@ -27,9 +27,9 @@ use Rattle.turns.specs.Told.{Sees, Seeing, hostOf, AnsweredBy, WithEdit, WithCl
 use Rattle.turns.proofs.Filled.{prepared-long}
 use Rattle.edits.specs.declared.Edit.{Edit}
 use Rattle.edits.specs.Edits.{changeOf}
-use Rattle.views.specs.declared.Asks.{Asks}
+use Rattle.asks.specs.declared.Asks.{Asks}
 use Rattle.views.specs.declared.View.{View}
-use Rattle.views.specs.Asks.{asksFor}
+use Rattle.asks.specs.Asks.{asksFor}
 use Rattle.views.specs.Views.{viewOf}
 use Rattle.model.specs.declared.State.{State}
 use Rattle.driver.specs.Feed.{wholeLine}

@@ -118,7 +118,7 @@ fn feed_lines(
         let next = e + 1;
         let mut buffer = [0u8; 257];
         let request = read_request(held, have, &input[i..e], &mut buffer);
-        let asks = views::asked(request);
+        let asks = asks::asked(request);
         let row = lookup::row(asks.caller);
         let guest = state.guests[row];
         let cpu = state.cpus[row];

@@ -15,9 +15,9 @@ use Rattle.model.specs.declared.Operation.{Operation}
 use Rattle.model.specs.Calls.{enrols, judge}
 use Rattle.model.specs.Replies.{reply, replied, callOf}
 use Rattle.model.specs.SoundTest.{sound}
-use Rattle.views.specs.declared.Asks.{Asks}
+use Rattle.asks.specs.declared.Asks.{Asks}
 use Rattle.views.specs.declared.View.{View}
-use Rattle.views.specs.Asks.{asksBy}
+use Rattle.asks.specs.Asks.{asksBy}
 use Rattle.views.specs.Views.{viewOf}
 use Rattle.views.proofs.Judged.{judged-bad}
 use Rattle.edits.specs.declared.Edit.{Edit}

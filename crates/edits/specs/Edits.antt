@@ -12,7 +12,7 @@ use Rattle.model.specs.Decision.{Decision}
 use Rattle.model.specs.Replies.{callOf}
 use Rattle.model.specs.SoundTest.{sound}
 use Rattle.views.specs.declared.View.{View}
-use Rattle.views.specs.Asks.{asksBy}
+use Rattle.asks.specs.Asks.{asksBy}
 use Rattle.views.specs.Views.{viewOf}
 use Rattle.edits.specs.declared.Edit.{Edit}
 use Rattle.edits.specs.declared.Edit.the-variants.{Nothing, Permit, Entry, Register, Mode, Key, Cell}

@@ -52,11 +52,13 @@ use Rattle.rights.specs.Isolated.{IsolatedTo}
 use Rattle.edits.proofs.Kept.{decided-refused, decided-done}
 use Rattle.translation.specs.Translated.{tokenPlace}
 use Rattle.translation.proofs.Translated.{named-place}
-use Rattle.views.specs.declared.Asks.{Asks}
+use Rattle.asks.specs.declared.Asks.{Asks}
 use Rattle.views.specs.declared.View.{View}
-use Rattle.views.specs.Asks.{asksBy, tokenBy}
+use Rattle.asks.specs.Asks.{asksBy}
+use Rattle.views.specs.Token.{tokenBy}
 use Rattle.views.specs.Views.{viewOf}
-use Rattle.views.proofs.Judged.{asks-caller, judged-bad, judged-good, place-own, row-own, seen-caller, seen-enrolled, seen-guest}
+use Rattle.asks.proofs.Told.{asks-caller}
+use Rattle.views.proofs.Judged.{judged-bad, judged-good, place-own, row-own, seen-caller, seen-enrolled, seen-guest}
 use Rattle.views.proofs.Looked.{space-slot, permit-slot, permit-finds, isolate-finds, add-finds, query-finds, permit-other}
 use Rattle.views.proofs.Seeking.{Shows, Seeks, slot-low, stops, slot-is, goes-on}
 use Rattle.views.proofs.Added.{add-free, add-unused}

@@ -15,7 +15,7 @@ use Rattle.model.specs.SoundTest.{sound}
 use Rattle.lookup.specs.declared.Owned.{Owned}
 use Rattle.lookup.specs.declared.Owned.the-variants.{At, Refused}
 use Rattle.views.specs.declared.View.{View}
-use Rattle.views.specs.Asks.{asksBy}
+use Rattle.asks.specs.Asks.{asksBy}
 use Rattle.views.specs.Views.{viewOf}
 
 pub record IsDecided (v : View) (id : ℕ) (d : Decision) : Type 0 where

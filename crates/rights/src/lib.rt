@@ -74,7 +74,7 @@ pub fn permit(s: State, caller: Caller, id: u32, guest: u32, right: Right) -> Re
     ensures { λ r. ⌜ r ≡ replied s (judge s (callOf caller (PermitCall id guest right)) 0) ⌝ }
 {
     let operation = Operation::Permit { id, guest, right };
-    let v = views::seen_in(s, views::asked_by(Call { caller, operation }));
+    let v = views::seen_in(s, asks::asked_by(Call { caller, operation }));
     edits::carried(s, decide_permit(v, id, guest, right))
 }
 
@@ -108,7 +108,7 @@ pub fn isolate(s: State, caller: Caller, id: u32) -> Reply
     ensures { λ r. ⌜ r ≡ replied s (judge s (callOf caller (Isolate id)) 0) ⌝ }
 {
     let operation = Operation::Isolate { id };
-    let v = views::seen_in(s, views::asked_by(Call { caller, operation }));
+    let v = views::seen_in(s, asks::asked_by(Call { caller, operation }));
     match decide_isolate(v, id) {
         Owned::Refused(refusal) => Reply {
             answer: refusal,
@@ -169,7 +169,7 @@ pub fn query(s: State, caller: Caller, owner: u32, name: u64) -> Answer
     ensures { λ r. ⌜ r ≡ judge s (callOf caller (Query owner name)) 0 .answer ⌝ }
 {
     let operation = Operation::Query { owner, name };
-    let v = views::seen_in(s, views::asked_by(Call { caller, operation }));
+    let v = views::seen_in(s, asks::asked_by(Call { caller, operation }));
     let told = decide_query(v, owner, name);
     told.answer
 }
@@ -228,7 +228,7 @@ pub fn add(s: State, caller: Caller, id: u32, right: Right) -> Reply
     ensures { λ r. ⌜ r ≡ replied s (judge s (callOf caller (Add id right)) 0) ⌝ }
 {
     let operation = Operation::Add { id, right };
-    let v = views::seen_in(s, views::asked_by(Call { caller, operation }));
+    let v = views::seen_in(s, asks::asked_by(Call { caller, operation }));
     edits::carried(s, decide_add(v, id, right))
 }
 
@@ -263,6 +263,6 @@ pub fn remove(s: State, caller: Caller, token: u32) -> Reply
     ensures { λ r. ⌜ r ≡ replied s (judge s (callOf caller (Remove token)) 0) ⌝ }
 {
     let operation = Operation::Remove { token };
-    let v = views::seen_in(s, views::asked_by(Call { caller, operation }));
+    let v = views::seen_in(s, asks::asked_by(Call { caller, operation }));
     edits::carried(s, decide_remove(v, token))
 }

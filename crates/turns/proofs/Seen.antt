@@ -35,7 +35,7 @@ use Rattle.edits.specs.declared.Edited.{Edited}
 use Rattle.edits.specs.Edits.{changeOf, Fits}
 use Rattle.transfer.specs.Transferred.{RunIn}
 use Rattle.views.specs.declared.View.{View}
-use Rattle.views.specs.Asks.{asksBy, asksFor}
+use Rattle.asks.specs.Asks.{asksBy, asksFor}
 use Rattle.views.specs.Views.{viewOf}
 use Rattle.turns.specs.declared.Answered.{Answered}
 use Rattle.turns.specs.declared.Answered.the-variants.{To, Closing, NotYet}

@@ -13,7 +13,7 @@ use Rattle.ready.specs.Usable.{usable}
 use Rattle.edits.specs.declared.Edit.{Edit}
 use Rattle.edits.specs.Edits.{changeOf, Fits}
 use Rattle.views.specs.declared.View.{View}
-use Rattle.views.specs.Asks.{asksFor}
+use Rattle.asks.specs.Asks.{asksFor}
 use Rattle.views.specs.Views.{viewOf}
 use Rattle.turns.specs.declared.Answered.{Answered}
 use Rattle.turns.specs.declared.Answered.the-variants.{To, Closing, NotYet}

@@ -21,7 +21,7 @@ use Rattle.model.specs.SoundTest.{sound}
 use Rattle.model.specs.Tables.{noGuest, unusedEntry, guestAt, guestPlace, entryAt}
 use Rattle.model.proofs.SoundTest.{sound-decides}
 use Rattle.views.specs.declared.View.{View}
-use Rattle.views.specs.Asks.{asksBy}
+use Rattle.asks.specs.Asks.{asksBy}
 use Rattle.views.specs.Taking.{takingFor, takenBy, listed, freePlace}
 use Rattle.views.specs.Views.{viewOf}
 use Rattle.views.proofs.Judged.{seen-enrolled, place-own, row-own, seen-caller}

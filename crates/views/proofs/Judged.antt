@@ -10,7 +10,6 @@ use Rattle.lookup.proofs.Rows.{row-place, enrolled-row}
 use Rattle.model.specs.declared.Answer.the-variants.{BadCaller}
 use Rattle.model.specs.declared.Caller.{Caller}
 use Rattle.model.specs.declared.Operation.{Operation}
-use Rattle.model.specs.declared.Operation.the-variants.{Enrol, Create, Destroy, Permit, Isolate, Query, Add, Remove, Load, Mode, Fetch, Store, Reset, Key, Block}
 use Rattle.model.specs.declared.State.{State}
 use Rattle.model.specs.Arguments.{arguments, checkAll}
 use Rattle.model.specs.Calls.{enrols, goodCaller, judge, perform}
@@ -21,28 +20,10 @@ use Rattle.model.specs.Searches.{enrolled}
 use Rattle.model.specs.Tables.{noGuest, guestAt, guestPlace}
 use Rattle.model.proofs.Searches.{enrolled-guest}
 use Rattle.model.proofs.Rules.{check-yes, check-no, place-no, place-yes, place-is}
+use Rattle.asks.proofs.Told.{asks-caller}
 use Rattle.views.specs.declared.View.{View}
-use Rattle.views.specs.Asks.{asksBy}
+use Rattle.asks.specs.Asks.{asksBy}
 use Rattle.views.specs.Views.{viewOf}
-
--- every call asks for its caller
-pub asks-caller : (g : ℕ) (o : Operation) → asksBy g o .caller ≡ g
-unfolding asksBy
-asks-caller g (Enrol x) = refl
-asks-caller g (Create name pages) = refl
-asks-caller g (Destroy id) = refl
-asks-caller g (Permit id guest right) = refl
-asks-caller g (Isolate id) = refl
-asks-caller g (Query owner name) = refl
-asks-caller g (Add id right) = refl
-asks-caller g (Remove token) = refl
-asks-caller g (Load register value) = refl
-asks-caller g (Mode mode) = refl
-asks-caller g (Fetch register address) = refl
-asks-caller g (Store register address) = refl
-asks-caller g Reset = refl
-asks-caller g (Key key) = refl
-asks-caller g (Block id address key mark) = refl
 
 module _ (s : State) (g : ℕ) (o : Operation) (v : View) (e : v ≡ viewOf s (asksBy g o)) where
   pub seen-place : v .place ≡ callerPlace (s .guests) g

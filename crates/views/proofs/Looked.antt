@@ -15,11 +15,11 @@ use Rattle.model.specs.declared.Operation.the-variants.{Permit, Isolate, Query,
 use Rattle.model.specs.Leaves.{callerPlace}
 use Rattle.model.specs.Searches.{slotOf, slotNamed}
 use Rattle.model.specs.Tables.{noPermit, spaceAt}
-use Rattle.views.specs.declared.Asks.{Asks}
-use Rattle.views.specs.declared.Sought.the-variants.{Id}
-use Rattle.views.specs.declared.Uses.the-variants.{Token}
+use Rattle.asks.specs.declared.Asks.{Asks}
+use Rattle.asks.specs.declared.Sought.the-variants.{Id}
+use Rattle.asks.specs.declared.Uses.the-variants.{Token}
 use Rattle.views.specs.declared.View.{View}
-use Rattle.views.specs.Asks.{asksBy}
+use Rattle.asks.specs.Asks.{asksBy}
 use Rattle.views.specs.Search.{soughtBy, searchUsing, searchBy, foundBy}
 use Rattle.views.specs.Views.{viewOf}
 

@@ -19,7 +19,7 @@ use Rattle.lookup.specs.declared.Owned.the-variants.{At, Refused}
 use Rattle.lookup.specs.Owned.{ownedAt, ownedSpace}
 use Rattle.lookup.proofs.Owning.{owned-row, owned-slot, owning-passes, owning-stops}
 use Rattle.views.specs.declared.View.{View}
-use Rattle.views.specs.Asks.{asksBy}
+use Rattle.asks.specs.Asks.{asksBy}
 use Rattle.views.specs.Views.{viewOf}
 use Rattle.views.proofs.Judged.{seen-caller}
 use Rattle.views.proofs.Looked.{space-row}

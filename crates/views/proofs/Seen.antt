@@ -8,9 +8,9 @@ use Rattle.lookup.specs.Rows.{rowOf, placeBy, slotRow}
 use Rattle.model.specs.declared.State.{State}
 use Rattle.model.specs.Tables.{noSpace, noGuest, noPermit, noCpu, unusedEntry, noCell}
 use Rattle.translation.specs.Translated.{tokenPlace}
-use Rattle.views.specs.declared.Asks.{Asks}
+use Rattle.asks.specs.declared.Asks.{Asks}
 use Rattle.views.specs.declared.Search.{Search}
-use Rattle.views.specs.Asks.{tokenBy}
+use Rattle.views.specs.Token.{tokenBy}
 use Rattle.views.specs.Search.{searchFor, foundBy}
 use Rattle.views.specs.declared.Taking.{Taking}
 use Rattle.views.specs.Taking.{takingFor, takenBy, freePlace}

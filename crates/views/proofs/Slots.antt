@@ -15,10 +15,10 @@ use Rattle.model.specs.declared.Standing.{Standing}
 use Rattle.model.specs.declared.Standing.the-variants.{Unused, Valid, Revoked}
 use Rattle.model.specs.Tables.{spaceAt}
 use Rattle.views.specs.declared.Search.{Search}
-use Rattle.views.specs.declared.Sought.{Sought}
-use Rattle.views.specs.declared.Sought.the-variants.{Nothing, Id, Named}
-use Rattle.views.specs.declared.Uses.{Uses}
-use Rattle.views.specs.declared.Uses.the-variants.{Token, Register}
+use Rattle.asks.specs.declared.Sought.{Sought}
+use Rattle.asks.specs.declared.Sought.the-variants.{Nothing, Id, Named}
+use Rattle.asks.specs.declared.Uses.{Uses}
+use Rattle.asks.specs.declared.Uses.the-variants.{Token, Register}
 use Rattle.views.specs.Search.{soughtBy, settled, slotIn, searchThrough, searchBy, searchUsing, foundBy, leftOf, Advanced}
 
 abbrev searched : Sought → (at : ℕ) → Bool → Search

@@ -1,30 +1,19 @@
--- What the code has found a call, a token and an entry to be. Assumes nothing.
+-- What the code has found a token and an entry to be. Assumes nothing.
 use Prim.Native.Nat.{ℕ, _≤_, _<_}
 use mathlib.Core.Bool.{true, false}
 use mathlib.Core.Path.{_≡_, refl, sym, ap, _∙_}
 use borrow.Author.Tests.{le-leb, lt-leb, ne-eqb, eq-eqb}
 use Rattle.lists.proofs.Choice.{yes!, no! }
-use Rattle.model.specs.declared.Call.{Call}
 use Rattle.model.specs.declared.Cpu.{Cpu}
-use Rattle.model.specs.declared.Operation.{Operation}
 use Rattle.model.specs.declared.Standing.{Standing}
 use Rattle.model.specs.Names.{baseName}
 use Rattle.model.specs.Tokens.{tokenUsed}
-use Rattle.views.specs.declared.Asks.{Asks}
 use Rattle.views.specs.declared.Search.{Search}
-use Rattle.views.specs.declared.Sought.the-variants.{Named}
-use Rattle.views.specs.declared.Uses.{Uses}
-use Rattle.views.specs.declared.Uses.the-variants.{Token, Register}
-use Rattle.views.specs.Asks.{asksBy, tokenBy}
+use Rattle.asks.specs.declared.Sought.the-variants.{Named}
+use Rattle.asks.specs.declared.Uses.{Uses}
+use Rattle.asks.specs.declared.Uses.the-variants.{Token, Register}
+use Rattle.views.specs.Token.{tokenBy}
 use Rattle.views.specs.Search.{searching, slotIn, searchThrough}
-
-module _ (k : Call) where
-  abbrev asked : Asks
-  asked = asksBy (k .caller .guest) (k .operation)
-
-  -- a call that was found to be o asks for what o asks for
-  pub asks-as : (o : Operation) (x : Asks) → k .operation ≡ o → x ≡ asksBy (k .caller .guest) o → x ≡ asked
-  asks-as o x e p = p ∙ ap (asksBy (k .caller .guest)) (sym e)
 
 -- the token
 module _ (u : Uses) (c : Cpu) where

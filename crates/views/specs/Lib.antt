@@ -1,5 +1,5 @@
--- What a call asks to see, the searches for its space and for an entry, and what it sees.
-pub mod Asks
+-- The token that a call uses, the searches for its space and for an entry, and what it sees.
+pub mod Token
 pub mod Search
 pub mod Taking
 pub mod Views

@@ -14,12 +14,12 @@ use Rattle.model.specs.Names.{baseName}
 use Rattle.model.specs.Searches.{isSpace, isNamed}
 use Rattle.model.specs.Sizes.{slotCount}
 use Rattle.model.specs.Tables.{spaceAt}
-use Rattle.views.specs.declared.Asks.{Asks}
+use Rattle.asks.specs.declared.Asks.{Asks}
 use Rattle.views.specs.declared.Search.{Search}
-use Rattle.views.specs.declared.Sought.{Sought}
-use Rattle.views.specs.declared.Sought.the-variants.{Nothing, Id, Named}
-use Rattle.views.specs.declared.Uses.{Uses}
-use Rattle.views.specs.declared.Uses.the-variants.{Token, Register}
+use Rattle.asks.specs.declared.Sought.{Sought}
+use Rattle.asks.specs.declared.Sought.the-variants.{Nothing, Id, Named}
+use Rattle.asks.specs.declared.Uses.{Uses}
+use Rattle.asks.specs.declared.Uses.the-variants.{Token, Register}
 
 unfoldable pub soughtBy : Sought → Space → Bool
 soughtBy Nothing x = false

@@ -9,9 +9,9 @@ use Rattle.model.specs.declared.State.{State}
 use Rattle.model.specs.Sizes.{frameSize, maxFrames}
 use Rattle.model.specs.Tables.{noGuest, noPermit, unusedEntry, spaceAt, cpuAt, cellAt}
 use Rattle.translation.specs.Translated.{tokenPlace}
-use Rattle.views.specs.declared.Asks.{Asks}
+use Rattle.asks.specs.declared.Asks.{Asks}
 use Rattle.views.specs.declared.View.{View}
-use Rattle.views.specs.Asks.{tokenBy}
+use Rattle.views.specs.Token.{tokenBy}
 use Rattle.views.specs.Search.{searchFor, foundBy}
 use Rattle.views.specs.Taking.{takingFor, takenBy, freePlace}
 

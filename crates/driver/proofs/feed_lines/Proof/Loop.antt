@@ -15,7 +15,7 @@ use Rattle.turns.proofs.answer.Reads as answer-reads
 use Rattle.turns.proofs.change.Reads as change-reads
 use Rattle.turns.proofs.tell.Reads as tell-reads
 use Rattle.views.proofs.advance.Reads as advance-reads
-use Rattle.views.proofs.asked.Reads as asked-reads
+use Rattle.asks.proofs.asked.Reads as asked-reads
 use Rattle.views.proofs.beyond_place.Reads as beyond-place-reads
 use Rattle.views.proofs.block_place.Reads as block-place-reads
 use Rattle.views.proofs.free_place.Reads as free-place-reads

@@ -1,8 +1,8 @@
--- `views::asked` meets its contract. Assumes nothing.
-use Rattle.views.specs.Asks.{asksFor}
+-- `asks::asked` meets its contract. Assumes nothing.
+use Rattle.asks.specs.Asks.{asksFor}
 use borrow.Author.Needs.{needs}
-use Rattle.views.proofs.asked.Statement.{statement}
-use Rattle.views.proofs.asked.Tie as tie
+use Rattle.asks.proofs.asked.Statement.{statement}
+use Rattle.asks.proofs.asked.Tie as tie
 
 returns : tie.Need-returns
 unfolding asksFor

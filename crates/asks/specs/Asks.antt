@@ -1,19 +1,15 @@
--- What a call asks to see, and the token that it uses.
+-- What a call asks to see.
 use Prim.Native.Nat.{ℕ}
 use mathlib.Core.Bool.{true, false}
-use lib.Dec.{leb}
-use Rattle.lists.specs.Choice.{choose}
-use Rattle.model.specs.declared.Cpu.{Cpu}
 use Rattle.model.specs.declared.Operation.{Operation}
 use Rattle.model.specs.declared.Operation.the-variants.{Enrol, Create, Destroy, Permit, Isolate, Query, Add, Remove, Load, Mode, Fetch, Store, Reset, Key, Block}
 use Rattle.model.specs.declared.Request.{Request}
 use Rattle.model.specs.declared.Request.the-variants.{Frames, Call, NotRead}
-use Rattle.model.specs.Tokens.{tokenUsed}
-use Rattle.views.specs.declared.Asks.{Asks}
-use Rattle.views.specs.declared.Sought.{Sought}
-use Rattle.views.specs.declared.Sought.the-variants.{Nothing, Id, Named}
-use Rattle.views.specs.declared.Uses.{Uses}
-use Rattle.views.specs.declared.Uses.the-variants.{Token, Register}
+use Rattle.asks.specs.declared.Asks.{Asks}
+use Rattle.asks.specs.declared.Sought.{Sought}
+use Rattle.asks.specs.declared.Sought.the-variants.{Nothing, Id, Named}
+use Rattle.asks.specs.declared.Uses.{Uses}
+use Rattle.asks.specs.declared.Uses.the-variants.{Token, Register}
 
 abbrev asking : (caller other : ℕ) → Uses → Sought → Asks
 asking c o u x = record { caller = c; other = o; uses = u; sought = x; takes = false; address = 0 }
@@ -47,8 +43,3 @@ unfoldable pub asksFor : Request → Asks
 asksFor (Frames f) = plainly 0
 asksFor (Call k n) = asksBy (k .caller .guest) (k .operation)
 asksFor NotRead = plainly 0
-
--- the token, by the caller's CPU; a register that no CPU has holds none
-unfoldable pub tokenBy : Uses → Cpu → ℕ
-tokenBy (Token t) c = t
-tokenBy (Register r) c = choose (leb r 15) (tokenUsed c r) 0

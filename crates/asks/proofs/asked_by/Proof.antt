@@ -1,9 +1,9 @@
--- `views::asked_by` meets its contract. Assumes nothing.
-use Rattle.views.specs.Asks.{asksBy}
-use Rattle.views.proofs.Told.{asks-as}
+-- `asks::asked_by` meets its contract. Assumes nothing.
+use Rattle.asks.specs.Asks.{asksBy}
+use Rattle.asks.proofs.Told.{asks-as}
 use borrow.Author.Needs.{needs}
-use Rattle.views.proofs.asked_by.Statement.{statement}
-use Rattle.views.proofs.asked_by.Tie as tie
+use Rattle.asks.proofs.asked_by.Statement.{statement}
+use Rattle.asks.proofs.asked_by.Tie as tie
 
 returns : tie.Need-returns
 unfolding asksBy
