@@ -6,8 +6,8 @@ ghost use lib.ListN.{length, getD};
 ghost use Rattle.lists.specs.Places.{oneIf};
 ghost use Rattle.model.specs.SoundTest.{cellsTest};
 ghost use Rattle.permitted.specs.Columns.{Filled};
-ghost use Rattle.cells.specs.Weights.{weightOf, weightAt, larger as largerOf, mostOf};
-ghost use Rattle.cells.specs.Left.{Cleared, leftBy, leftAt, Fits, AllFit};
+ghost use Rattle.cells.specs.Weights.{weightOf, larger as largerOf, mostOf};
+ghost use Rattle.cells.specs.Left.{Cleared, leftBy, Fits, AllFit};
 use model::Cell;
 use model::Space;
 
@@ -35,17 +35,6 @@ fn weight(c: Cell) -> u8
     ensures { λ r. ⌜ r ≡ weightOf c ⌝ }
 {
     larger(c.key, one_if(c.mark))
-}
-
-fn weights_of(cells: [Cell; 512]) -> [u8; 512]
-    ensures { λ r. ⌜ Filled r (weightAt cells) 512 ⌝ }
-{
-    let mut weights = [0u8; 512];
-    for f in 0..512usize {
-        let c = cells[f];
-        weights[f] = weight(c);
-    }
-    weights
 }
 
 fn heaviest(weights: &[u8; 512]) -> u8
@@ -90,22 +79,17 @@ fn clear_frames(x: Space, weights: &mut [u8; 512])
     clear_run(weights, end - 16, end);
 }
 
-fn clear_used(spaces: [Space; 32], weights: &mut [u8; 512])
-    requires { ⌜ AllFit spaces × (512 ≤ length (now weights)) ⌝ }
-    ensures { λ _. ⌜ Filled (now (weights .exit)) (leftAt spaces (now (weights .entry))) 512 ⌝ }
-{
-    for u in 0..32usize {
-        let x = spaces[u];
-        clear_frames(x, weights);
-    }
-}
-
-// Where every cell is blank, no space has to be asked.
+// Where every cell is blank, no space has to be asked. Both loops over tables stand here, since a table that is handed on is
+// copied.
 pub fn cells_ok(spaces: [Space; 32], cells: [Cell; 512]) -> bool
     requires { ⌜ AllFit spaces ⌝ }
     ensures { λ r. ⌜ r ≡ cellsTest spaces spaces cells ⌝ }
 {
-    let mut weights = weights_of(cells);
+    let mut weights = [0u8; 512];
+    for f in 0..512usize {
+        let c = cells[f];
+        weights[f] = weight(c);
+    }
     let most = heaviest(&weights);
     if most == 0 {
         return true;
@@ -113,6 +97,9 @@ pub fn cells_ok(spaces: [Space; 32], cells: [Cell; 512]) -> bool
     if 15 < most {
         return false;
     }
-    clear_used(spaces, &mut weights);
+    for u in 0..32usize {
+        let x = spaces[u];
+        clear_frames(x, &mut weights);
+    }
     heaviest(&weights) == 0
 }
