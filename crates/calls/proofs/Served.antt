@@ -15,9 +15,8 @@ use Rattle.model.specs.declared.State.{State}
 use Rattle.model.specs.Calls.{judge}
 use Rattle.model.specs.Decision.{after}
 use Rattle.model.specs.Leaves.{scratchJudged, bufferJudged}
-use Rattle.model.specs.Replies.{replied, reply, callOf}
+use Rattle.model.specs.Replies.{replied, reply, callOf, Carried}
 use Rattle.model.specs.Step.{scratchAfter}
-use Rattle.making.specs.Made.{MadeBy}
 use Rattle.calls.specs.Served.{Served}
 use Rattle.calls.proofs.Touches.{touch, LeavesTables, LeavesScratch, LeavesBuffer, Unmoving, tables-kept, scratch-kept, buffer-kept, bufferless, any-length}
 
@@ -42,7 +41,7 @@ module _ (s : State) (c : Caller) (k : Operation) (m b : List ℕ) where
   asked u lt ls lb a e = still u ls lb (reply a s) (replied-kept 0 a lt e)
 
   -- a space made: its frames cleared
-  pub made : Unmoving (touch k) → LeavesBuffer (touch k) → (r : Reply) (m' : List ℕ) → MadeBy s (judge s (callOf c k) 0) r m m'
+  pub made : Unmoving (touch k) → LeavesBuffer (touch k) → (r : Reply) (m' : List ℕ) → Carried s (judge s (callOf c k) 0) r m m'
       → Served s (callOf c k) r m b m' b
   unfolding scratchJudged
   made u lb r m' e = record {
@@ -67,11 +66,11 @@ module _ (s : State) (k : Call) (m b : List ℕ) where
   Replied o r = r ≡ replied s (judge s (callOf (k .caller) o) 0)
 
   pub enrol-served : (x : Settings) (r : Reply) (m' : List ℕ) → k .operation ≡ Enrol x
-      → MadeBy s (judge s (callOf (k .caller) (Enrol x)) 0) r m m' → Served s k r m b m' b
+      → Carried s (judge s (callOf (k .caller) (Enrol x)) 0) r m m' → Served s k r m b m' b
   enrol-served x r m' e = rw e (made s (k .caller) (Enrol x) m b tt tt r m')
 
   pub create-served : (name pages : ℕ) (r : Reply) (m' : List ℕ) → k .operation ≡ Create name pages
-      → MadeBy s (judge s (callOf (k .caller) (Create name pages)) 0) r m m' → Served s k r m b m' b
+      → Carried s (judge s (callOf (k .caller) (Create name pages)) 0) r m m' → Served s k r m b m' b
   create-served name pages r m' e = rw e (made s (k .caller) (Create name pages) m b tt tt r m')
 
   pub destroy-served : (id : ℕ) (r : Reply) → k .operation ≡ Destroy id → Replied (Destroy id) r → Served s k r m b m b

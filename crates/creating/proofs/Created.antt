@@ -18,12 +18,12 @@ use Rattle.model.specs.Arguments.{arguments, checkAll}
 use Rattle.model.specs.Calls.{create, perform, enrols, goodCaller, judge}
 use Rattle.model.specs.Leaves.{callerPlace}
 use Rattle.model.specs.Names.{goodName}
-use Rattle.model.specs.Replies.{reply, callOf}
+use Rattle.model.specs.Replies.{reply, callOf, Carried}
 use Rattle.model.specs.Searches.{slotNamed, dataSpaces}
 use Rattle.model.specs.Tables.{noGuest, guestAt}
 use Rattle.model.proofs.Rules.{place-yes, place-is}
 use Rattle.model.proofs.Searches.{enrolled-guest}
-use Rattle.making.specs.Made.{MadeBy, Makes}
+use Rattle.making.specs.Made.{Makes}
 use Rattle.making.proofs.Done.{stops, goes}
 
 -- an enrolled guest's number
@@ -32,7 +32,7 @@ owner-small gs g at e l = enrolled-guest gs g (place-yes at gs g e l) .high
 
 module _ (s : State) (c : Caller) (name pages at : ℕ) (gs : List Guest) (good : Bool) (m : List ℕ) where
   checked : (r : Reply) (m' : List ℕ) → at ≡ callerPlace gs (c .guest) → gs ≡ s .guests → at < 8 → good ≡ goodName name → not good ≡ false → (pages ≡ 0 → ⊥) → pages ≤ 512
-      → MadeBy s (create s (c .guest) name pages) r m m' → MadeBy s (judge s (callOf c (Create name pages)) 0) r m m'
+      → Carried s (create s (c .guest) name pages) r m m' → Carried s (judge s (callOf c (Create name pages)) 0) r m m'
   unfolding judge goodCaller enrols choose arguments checkAll perform
   checked r m' e q l g ng p0 p1 inner =
       goes r s _ _ _ m m' (rw (← q) (place-yes at gs (c .guest) e l))
@@ -40,7 +40,7 @@ module _ (s : State) (c : Caller) (name pages at : ℕ) (gs : List Guest) (good 
       (goes r s _ _ _ m m' (both-intro _ _ (le-leb 1 pages (omega arith)) (le-leb pages 512 p1)) inner))
 
   pub create-named : (u : ℕ) → at ≡ callerPlace gs (c .guest) → gs ≡ s .guests → at < 8 → good ≡ goodName name → not good ≡ false → (pages ≡ 0 → ⊥) → pages ≤ 512
-      → u ≡ slotNamed (s .spaces) (c .guest) name → u < 32 → MadeBy s (judge s (callOf c (Create name pages)) 0) (reply NameTaken s) m m
+      → u ≡ slotNamed (s .spaces) (c .guest) name → u < 32 → Carried s (judge s (callOf c (Create name pages)) 0) (reply NameTaken s) m m
   unfolding create
   create-named u e q l g ng p0 p1 ue ul = checked (reply NameTaken s) m e q l g ng p0 p1 (stops s _ _ _ m (rw (← ue) (lt-leb 32 u ul)))
 
@@ -50,7 +50,7 @@ module _ (s : State) (c : Caller) (name pages at : ℕ) (gs : List Guest) (good 
 
   pub create-full : (u n : ℕ) → at ≡ callerPlace gs (c .guest) → gs ≡ s .guests → at < 8 → good ≡ goodName name → not good ≡ false → (pages ≡ 0 → ⊥) → pages ≤ 512
       → u ≡ slotNamed (s .spaces) (c .guest) name → 32 ≤ u → n ≡ dataSpaces (s .spaces) (c .guest) → n ≡ getD gs at noGuest .allowance
-      → MadeBy s (judge s (callOf c (Create name pages)) 0) (reply AllowanceUsed s) m m
+      → Carried s (judge s (callOf c (Create name pages)) 0) (reply AllowanceUsed s) m m
   unfolding create
   create-full u n e q l g ng p0 p1 ue ul ne nn =
       checked (reply AllowanceUsed s) m e q l g ng p0 p1
@@ -58,7 +58,7 @@ module _ (s : State) (c : Caller) (name pages at : ℕ) (gs : List Guest) (good 
 
   pub create-done : (u n : ℕ) (r : Reply) (m' : List ℕ) → at ≡ callerPlace gs (c .guest) → gs ≡ s .guests → at < 8 → good ≡ goodName name → not good ≡ false → (pages ≡ 0 → ⊥) → pages ≤ 512
       → u ≡ slotNamed (s .spaces) (c .guest) name → 32 ≤ u → n ≡ dataSpaces (s .spaces) (c .guest) → (n ≡ getD gs at noGuest .allowance → ⊥)
-      → Makes s gs (c .guest) name pages r m m' → MadeBy s (judge s (callOf c (Create name pages)) 0) r m m'
+      → Makes s gs (c .guest) name pages r m m' → Carried s (judge s (callOf c (Create name pages)) 0) r m m'
   unfolding create
   create-done u n r m' e q l g ng p0 p1 ue ul ne nn inner =
       checked r m' e q l g ng p0 p1

@@ -3,9 +3,8 @@ ghost use Prim.Native.Nat.{_*_};
 ghost use mathlib.Core.Bool.{true};
 ghost use mathlib.Core.Path.{_≡_};
 ghost use lib.ListN.{length};
-ghost use Rattle.making.specs.Made.{MadeBy};
 ghost use Rattle.model.specs.Calls.{judge};
-ghost use Rattle.model.specs.Replies.{callOf};
+ghost use Rattle.model.specs.Replies.{callOf, Carried};
 ghost use Rattle.model.specs.SoundTest.{sound};
 ghost use Rattle.model.specs.declared.Operation.the-variants.{Create};
 use model::Answer;
@@ -16,7 +15,7 @@ use model::State;
 
 pub fn create(s: State, scratch: &mut [u8], caller: Caller, name: u64, pages: u32) -> Reply
     requires { ⌜ (sound s ≡ true) × (length (now scratch) ≡ s .frames * 4096) ⌝ }
-    ensures { λ r. ⌜ MadeBy s (judge s (callOf caller (Create name pages)) 0) r (now (scratch .entry)) (now (scratch .exit)) ⌝ }
+    ensures { λ r. ⌜ Carried s (judge s (callOf caller (Create name pages)) 0) r (now (scratch .entry)) (now (scratch .exit)) ⌝ }
 {
     let gs = s.guests;
     let at = lookup::caller_place(gs, caller.guest);

@@ -24,11 +24,11 @@ use Rattle.model.specs.Arguments.{arguments, checkAll}
 use Rattle.model.specs.Calls.{enrol, perform, enrols, mayEnrol, goodCaller, judge, newGuest}
 use Rattle.model.specs.Decision.{Decision, refuse, check}
 use Rattle.model.specs.Names.{baseName}
-use Rattle.model.specs.Replies.{reply, replied, callOf}
+use Rattle.model.specs.Replies.{reply, replied, callOf, Carried}
 use Rattle.model.specs.Step.{scratchAfter}
 use Rattle.model.specs.Tables.{guestAt, guestPlace}
 use Rattle.enrolling.specs.Enrolling.{newPlace, wrongOf, kindAt}
-use Rattle.making.specs.Made.{MadeBy, Makes}
+use Rattle.making.specs.Made.{Makes}
 use Rattle.making.proofs.Done.{stops, goes}
 
 -- check 2
@@ -62,7 +62,7 @@ module _ (gs : List Guest) (g at : ℕ) (is : at ≡ newPlace gs g) where
   new-owner l = guest-high (new-may l)
 
 -- a refusal by a decision that is one
-refused : (s : State) (d : Decision) (a : Answer) (m : List ℕ) → d ≡ refuse a → MadeBy s d (reply a s) m m
+refused : (s : State) (d : Decision) (a : Answer) (m : List ℕ) → d ≡ refuse a → Carried s d (reply a s) m m
 unfolding replied scratchAfter
 refused s d a m e = rw e (record { reply = refl; scratch = refl })
 
@@ -109,7 +109,7 @@ module _ (x : Settings) (w : ℕ) (is : w ≡ wrongOf x) (none : w ≡ 0) where
 
 module _ (s : State) (c : Caller) (x : Settings) (gs : List Guest) (at : ℕ) (m : List ℕ) where
   abbrev Made : Reply → List ℕ → Type 0
-  Made r m' = MadeBy s (judge s (callOf c (Enrol x)) 0) r m m'
+  Made r m' = Carried s (judge s (callOf c (Enrol x)) 0) r m m'
 
   pub enrol-caller : at ≡ newPlace gs (c .guest) → gs ≡ s .guests → 8 ≤ at → Made (reply BadCaller s) m
   unfolding judge goodCaller enrols choose mayEnrol

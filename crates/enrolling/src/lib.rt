@@ -4,9 +4,8 @@ ghost use mathlib.Core.Bool.{true};
 ghost use mathlib.Core.Path.{_≡_};
 ghost use lib.ListN.{length};
 ghost use Rattle.enrolling.specs.Enrolling.{newPlace, wrongOf, kindAt};
-ghost use Rattle.making.specs.Made.{MadeBy};
 ghost use Rattle.model.specs.Calls.{judge};
-ghost use Rattle.model.specs.Replies.{callOf};
+ghost use Rattle.model.specs.Replies.{callOf, Carried};
 ghost use Rattle.model.specs.SoundTest.{sound};
 ghost use Rattle.model.specs.declared.Operation.the-variants.{Enrol};
 use model::Answer;
@@ -81,7 +80,7 @@ fn kind_at(place: u8) -> Kind
 
 pub fn enrol(s: State, scratch: &mut [u8], caller: Caller, settings: Settings) -> Reply
     requires { ⌜ (sound s ≡ true) × (length (now scratch) ≡ s .frames * 4096) ⌝ }
-    ensures { λ r. ⌜ MadeBy s (judge s (callOf caller (Enrol settings)) 0) r (now (scratch .entry)) (now (scratch .exit)) ⌝ }
+    ensures { λ r. ⌜ Carried s (judge s (callOf caller (Enrol settings)) 0) r (now (scratch .entry)) (now (scratch .exit)) ⌝ }
 {
     let mut gs = s.guests;
     let at = new_place(gs, caller.guest);

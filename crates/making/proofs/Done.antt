@@ -21,7 +21,7 @@ use Rattle.model.specs.Calls.{newSpace, making}
 use Rattle.model.specs.Changes.{spaceAdded}
 use Rattle.model.specs.Decision.{Decision, check}
 use Rattle.model.specs.Frames.{layout, frameOf, framesOf}
-use Rattle.model.specs.Replies.{reply, replied}
+use Rattle.model.specs.Replies.{reply, replied, Carried}
 use Rattle.model.specs.Searches.{freeSlot, freeRun, runIn}
 use Rattle.model.specs.SoundTest.{sound}
 use Rattle.model.specs.Step.{clearFrames, scratchAfter}
@@ -29,14 +29,14 @@ use Rattle.model.specs.Tables.{noSpace, spaceAt, withGuests}
 use Rattle.model.proofs.Rules.{check-yes, check-no}
 use Rattle.model.proofs.Runs.{lowest-run}
 use Rattle.model.proofs.SoundTest.{sound-decides}
-use Rattle.making.specs.Made.{MadeBy, Makes}
+use Rattle.making.specs.Made.{Makes}
 use Rattle.making.proofs.Clear.{clear-run}
 
-pub stops : (s : State) (b : Bool) (a : Answer) (d : Decision) (m : List ℕ) → b ≡ false → MadeBy s (check b a d) (reply a s) m m
+pub stops : (s : State) (b : Bool) (a : Answer) (d : Decision) (m : List ℕ) → b ≡ false → Carried s (check b a d) (reply a s) m m
 unfolding replied scratchAfter
 stops s b a d m e = rw (check-no a d e) (record { reply = refl; scratch = refl })
 
-pub goes : (r : Reply) (s : State) (b : Bool) (a : Answer) (d : Decision) (m m' : List ℕ) → b ≡ true → MadeBy s d r m m' → MadeBy s (check b a d) r m m'
+pub goes : (r : Reply) (s : State) (b : Bool) (a : Answer) (d : Decision) (m m' : List ℕ) → b ≡ true → Carried s d r m m' → Carried s (check b a d) r m m'
 goes r s b a d m m' e p = rw (check-yes a d e) p
 
 pub ruleset steps = (stops, goes)

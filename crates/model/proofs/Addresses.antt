@@ -3,16 +3,16 @@
 use Rattle.model.specs.Tables.{spaceAt}
 use Rattle.model.specs.Lawful.{Covers}
 use Rattle.model.specs.declared.State.{State}
-use Rattle.lists.proofs.Maps.{length-placesFrom, getD-placesFrom}
-use lib.ListN.{length, getD}
-use Prim.Native.Nat.{ℕ, _*_, _/_, _<_}
+use Prim.Native.Nat.{ℕ, _*_, _/_, _≤_, _<_}
 use mathlib.Core.List.{List}
-use mathlib.Core.Path.{_≡_, sym, ap, _∙_}
+use mathlib.Core.Path.{_≡_, refl, sym, ap}
+use native.Mathlib.Decide.{decLe}
 use native.Mathlib.Omega.{arith}
 use Rattle.model.specs.declared.Guest.{Guest}
 use Rattle.model.specs.declared.Space.{Space}
-use Rattle.model.specs.Frames.{Layout, placeOf, sizeOf, layout, frameOf, framesOf}
-use Rattle.model.specs.Sound.{Live, SpacesOk}
+use Rattle.model.specs.Frames.{Layout, placeOf, sizeOf, layout, frameOf, hasFrame}
+use Rattle.model.specs.Sound.{Live, SpacesOk, HasFrame, Sound}
+use Rattle.model.proofs.Runs.{d-has}
 
 module _ (F next : ℕ) (gs : List Guest) (ss : List Space) (l : Layout) (ok : SpacesOk F next gs ss l) where
   pub place-inside : (u a : ℕ) → Live ss u → a < sizeOf ss u → placeOf l u a < F * 4096
@@ -25,14 +25,22 @@ module _ (F next : ℕ) (gs : List Guest) (ss : List Space) (l : Layout) (ok : S
       let q = ok .apart u v (a / 4096) (b / 4096) lu lv (omega arith) (omega arith) (omega arith) in
       (q .0, omega (arith, q .1))
 
--- the frames of a space, listed in page order
-pub frames-long : (s : State) (u : ℕ) → length (framesOf s u) ≡ spaceAt (s .spaces) u .pages
-unfolding framesOf
-frames-long s u = length-placesFrom (frameOf (layout s) u) 0 (spaceAt (s .spaces) u .pages)
+-- the byte at address a lies in the frame of its page, so at a place of a frame that the space has
+pub place-frame : (l : Layout) (u a : ℕ) → placeOf l u a / 4096 ≡ frameOf l u (a / 4096)
+unfolding placeOf
+place-frame l u a = omega arith
 
-pub frames-at : (s : State) (u k : ℕ) → k < spaceAt (s .spaces) u .pages → getD (framesOf s u) k 0 ≡ frameOf (layout s) u k
-unfolding framesOf
-frames-at s u k h = getD-placesFrom (frameOf (layout s) u) 0 (spaceAt (s .spaces) u .pages) k 0 h ∙ ap (frameOf (layout s) u) (omega arith)
+pub place-has : (ss : List Space) (l : Layout) (u a : ℕ) → a < sizeOf ss u → HasFrame l ss u (placeOf l u a / 4096)
+place-has ss l u a h = (a / 4096, omega arith, sym (place-frame l u a))
 
-pub covers-own : (s : State) (u : ℕ) → Covers s (framesOf s u) u
-covers-own s u p h = (p, rw (frames-long s u) h, sym (frames-at s u p h))
+-- a slot with a page is live
+pub page-live : (s : State) → Sound s → (u p : ℕ) → p < spaceAt (s .spaces) u .pages → Live (s .spaces) u
+page-live s ok u p h = go (decLe 1 (spaceAt (s .spaces) u .id))
+  where
+    go : Dec (1 ≤ spaceAt (s .spaces) u .id) → Live (s .spaces) u
+    go (yes l) = l
+    go (no n) = absurd (omega (arith, ap (λ (x : Space). x .pages) (ok .spaces .dead u (omega arith))))
+
+-- a space has its own frames
+pub covers-own : (s : State) (u : ℕ) → Covers s (hasFrame (layout s) (s .spaces) u) u
+covers-own s u p h = d-has (layout s) (s .spaces) u _ .of (p, h, refl)

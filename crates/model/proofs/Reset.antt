@@ -29,7 +29,7 @@ use Rattle.model.specs.Searches.{isOwned, isData, slotOf}
 use Rattle.model.specs.Sound.{IsGuest, IsEntry, Sound}
 use Rattle.model.specs.Tables.{noSpace, noPermit, unusedEntry, spaceAt, permitPlace, grantAt, entryPlace, entryAt, withEntries}
 use Rattle.model.proofs.Entries.{list-owner, released-unused, released-small, released-nothing, allows-read, nothing-allowed}
-use Rattle.model.proofs.Withdraw.{none-freed, sound-withdrawn}
+use Rattle.model.proofs.Withdraw.{none-freed, none-vacated, sound-withdrawn}
 
 -- All of guest g's given up: its own are released, those of others stay.
 module _ (es : List Entry) (g : ℕ) where
@@ -85,7 +85,7 @@ pub sound-isolate : (s : State) (g i : ℕ) (d : Decision) → Sound s → Isola
 sound-isolate s g i d ok c =
     rw (c .is) (sound-withdrawn s (λ v. false) (eqb (slotOf (s .spaces) i)) ok (λ v e. true-false e refl) (λ v e l. true-false e refl))
 
-pub sound-reset : (s : State) (g : ℕ) (d : Decision) → Sound s → ResetDone g d → Sound (after s d)
+pub sound-reset : (s : State) (g : ℕ) (d : Decision) → Sound s → ResetDone s g d → Sound (after s d)
 unfolding resetTables
 sound-reset s g d ok c =
     let gone : ℕ → Bool = λ u. isData g (spaceAt (s .spaces) u) in
@@ -106,10 +106,6 @@ none-revoked t e f = ap (λ x. record { standing = x; sequence = e .sequence }) 
 
 -- "ISOLATE .. On a private space it is done and changes nothing."
 module _ (s : State) (u : ℕ) (ok : Sound s) (hidden : (h : ℕ) → IsGuest h → allows (grantAt (s .permits) u h) Read ≡ false) where
-  same-spaces : vacated (λ v. false) (s .spaces) ≡ s .spaces
-  unfolding vacated
-  same-spaces = map-same _ (s .spaces) noSpace (λ k b. no! noSpace _ refl)
-
   same-permits : unpermitted (eqb u) (s .permits) ≡ s .permits
   unfolding unpermitted
   same-permits =
@@ -140,4 +136,4 @@ module _ (s : State) (u : ℕ) (ok : Sound s) (hidden : (h : ℕ) → IsGuest h 
 pub isolate-private : (s : State) (u : ℕ) → Sound s → u < 32 → ((h : ℕ) → IsGuest h → allows (grantAt (s .permits) u h) Read ≡ false) → withdrawn (λ v. false) (eqb u) s ≡ s
 unfolding withdrawn
 isolate-private s u ok _ hidden =
-    rw (same-spaces s u ok hidden, same-permits s u ok hidden, same-entries s u ok hidden, none-freed (layout s) (s .spaces) (s .cells))
+    rw (none-vacated (s .spaces), same-permits s u ok hidden, same-entries s u ok hidden, none-freed (layout s) (s .spaces) (s .cells))

@@ -1,6 +1,7 @@
 -- The bytes of a space: what a fetch reads, what a store and a clearing change, and that all other live spaces keep theirs.
 -- Assumes nothing.
 use Prim.Native.Nat.{ℕ, _+_, _-_, _*_, _/_, _≤_, _<_}
+use mathlib.Core.Bool.{Bool}
 use mathlib.Core.List.{List}
 use mathlib.Core.Logic.{_≢_}
 use mathlib.Core.Path.{_≡_, sym, ap, _∙_}
@@ -11,12 +12,11 @@ use lib.Seq.{ext-getD}
 use Rattle.lists.specs.Bytes.{over, part, put, get}
 use Rattle.lists.proofs.Bytes.{length-get, getD-get, get-part, get-put, get-agree, put-off, put-on, length-over, over-before, over-inside, over-after}
 use Rattle.model.specs.declared.State.{State}
-use Rattle.model.specs.Frames.{layout, frameOf, placeOf, sizeOf, bytesOf, framesOf}
+use Rattle.model.specs.Frames.{layout, placeOf, sizeOf, bytesOf, hasFrame}
 use Rattle.model.specs.Lawful.{Inside, Spares, Covers}
 use Rattle.model.specs.Sound.{Live, Sound}
 use Rattle.model.specs.Step.{clearFrames}
-use Rattle.model.specs.Tables.{spaceAt}
-use Rattle.model.proofs.Addresses.{place-inside, place-apart, frames-long, frames-at, covers-own}
+use Rattle.model.proofs.Addresses.{place-inside, place-apart, place-frame, covers-own}
 use Rattle.model.proofs.Clearing.{clears-off, clears-on}
 
 module _ (s : State) (ok : Sound s) where
@@ -87,34 +87,21 @@ module _ (s : State) (ok : Sound s) where
             (rw e at (put-on (at u) a b m own-apart (own-inside len) (k - a) l)) ∙ sym (rw e at (over-inside (bytesOf s u m) a b (k - a) 0 fits l))
 
   -- clearing frames: a space with none of them keeps its bytes, one whose frames are all among them is zeroed
-  page-frame : (v k : ℕ) → k < sizeOf (s .spaces) v → at v k / 4096 ≡ frameOf (layout s) v (k / 4096)
-  unfolding placeOf
-  page-frame v k h = omega arith
-
-  module _ (fs m : List ℕ) (u : ℕ) where
+  module _ (fs : ℕ → Bool) (m : List ℕ) (u : ℕ) where
     pub clear-spared : Spares s fs u → bytesOf s u (clearFrames fs m) ≡ bytesOf s u m
     unfolding bytesOf
     clear-spared h =
-        get-agree (at u) 0 (sizeOf (s .spaces) u) (clearFrames fs m) m (λ k _ l.
-        clears-off fs m (at u k) (λ j b e. h (k / 4096) j (omega arith) b (sym (page-frame u k (omega arith)) ∙ e)))
+        get-agree (at u) 0 (sizeOf (s .spaces) u) (clearFrames fs m) m (λ k _ l. clears-off fs m (at u k) (ap fs (place-frame (layout s) u k) ∙ h (k / 4096) (omega arith)))
 
     pub clear-covered : Covers s fs u → bytesOf s u (clearFrames fs m) ≡ replicate (sizeOf (s .spaces) u) 0
     clear-covered h =
         ext-getD 0 (bytesOf s u (clearFrames fs m)) (replicate (sizeOf (s .spaces) u) 0)
         (length-bytesOf u (clearFrames fs m) ∙ sym (length-replicate {A = ℕ} (sizeOf (s .spaces) u) 0)) (λ k l.
         let b : k < sizeOf (s .spaces) u = rw (length-bytesOf u (clearFrames fs m)) at l in
-        let c = h (k / 4096) (omega arith) in
         getD-bytesOf u k (clearFrames fs m) b
-        ∙ clears-on fs m (at u k) (c .0) (c .1) (page-frame u k b ∙ c .2)
+        ∙ clears-on fs m (at u k) (ap fs (place-frame (layout s) u k) ∙ h (k / 4096) (omega arith))
         ∙ sym (getD-replicate (sizeOf (s .spaces) u) k 0 0 b))
 
-  -- so clearing the frames of a space zeroes it, and no other live space
-  module _ (u : ℕ) (m : List ℕ) (lu : Live (s .spaces) u) where
-    pub clear-own : bytesOf s u (clearFrames (framesOf s u) m) ≡ replicate (sizeOf (s .spaces) u) 0
-    clear-own = clear-covered (framesOf s u) m u (covers-own s u)
-
-    pub clear-other : (v : ℕ) → Live (s .spaces) v → v ≢ u → bytesOf s v (clearFrames (framesOf s u) m) ≡ bytesOf s v m
-    clear-other v lv ne =
-        clear-spared (framesOf s u) m v (λ p k h b e.
-        let c : k < spaceAt (s .spaces) u .pages = rw (frames-long s u) at b in
-        ne (ok .spaces .apart v u p k lv lu h c (e ∙ frames-at s u k c) .0))
+  -- so clearing the frames of a space zeroes it
+  pub clear-own : (u : ℕ) (m : List ℕ) → bytesOf s u (clearFrames (hasFrame (layout s) (s .spaces) u) m) ≡ replicate (sizeOf (s .spaces) u) 0
+  clear-own u m = clear-covered (hasFrame (layout s) (s .spaces) u) m u (covers-own s u)

@@ -1,13 +1,13 @@
 -- What a done ENROL, CREATE, DESTROY, ISOLATE and RESET do, in the words of their rows in paper 01, and that they do nothing
 -- else. Assumes nothing.
-use Prim.Native.Nat.{ℕ, _+_, _*_, _<_}
+use Prim.Native.Nat.{ℕ, _+_, _*_, _/_, _<_}
 use mathlib.Core.Bool.{Bool, true, false}
 use mathlib.Core.List.{List}
 use mathlib.Core.Logic.{_≢_, inl, inr, ⊎-elim}
 use mathlib.Core.Path.{_≡_, refl, sym, ap, _∙_}
 use native.Mathlib.Omega.{arith}
 use lib.Dec.{eqb}
-use lib.ListN.{set, replicate}
+use lib.ListN.{getD, set, replicate}
 use lib.Seq.{getD-set-same, getD-set-other}
 use borrow.Author.Tests.{eq-eqb, eqb-true}
 use Rattle.lists.specs.Choice.{choose}
@@ -29,9 +29,9 @@ use Rattle.model.specs.declared.Standing.{Standing}
 use Rattle.model.specs.declared.Standing.the-variants.{Unused, Valid, Revoked}
 use Rattle.model.specs.declared.State.{State}
 use Rattle.model.specs.Answers.{value}
-use Rattle.model.specs.Calls.{newSpace, newGuest, enrols, goodCaller}
+use Rattle.model.specs.Calls.{newSpace, newGuest, destroying, enrols, goodCaller}
 use Rattle.model.specs.Changes.{released, releasedFrom, revokedFrom, revoked, loses, withdrawn, resetTables, spaceAdded, applied, freed}
-use Rattle.model.specs.Decision.{Decision, after, none, accept}
+use Rattle.model.specs.Decision.{Decision, after}
 use Rattle.model.specs.Frames.{layout, frameOf, bytesOf}
 use Rattle.model.specs.Granted.{Made, Performed}
 use Rattle.model.specs.Names.{baseName}
@@ -41,6 +41,7 @@ use Rattle.model.specs.Sound.{Live, IsGuest, IsEntry, Sound, HasFrame}
 use Rattle.model.specs.Step.{scratchAfter}
 use Rattle.model.specs.Tables.{noSpace, noGuest, spaceAt, guestAt, guestPlace, grantAt, entryAt, withNext, withSpaces, withGuests, withPermits, withEntries, withCells, noCell, cellAt}
 use Rattle.model.specs.declared.Cell.{Cell}
+use Rattle.model.proofs.Clearing.{clears-on, clears-off}
 use Rattle.model.proofs.Effects.{IsSpace, is-space, by, Done, all, ok, guest}
 use Rattle.model.proofs.Entries.{same-guest, released-unused}
 use Rattle.model.proofs.Reset.{standing-stays, released-own, released-other}
@@ -98,12 +99,17 @@ pub record Withdrawn (L : ℕ → Type 0) (x y : Entry) : Type 0 where
   pub lost : (u : ℕ) (r : Right) → x .standing ≡ Valid u r → L u → y ≡ record { standing = Revoked; sequence = x .sequence }
   pub kept : ((u : ℕ) (r : Right) → x .standing ≡ Valid u r → L u → ⊥) → y ≡ x
 
--- guests, registers, modes, access keys, the next identification and all bytes stay
-pub record RestStays (s : State) (d : Decision) : Type 0 where
-  pub tables : after s d ≡ withCells (withEntries (withPermits (withSpaces s (after s d .spaces)) (after s d .permits)) (after s d .entries)) (after s d .cells)
-  pub bytes : d .effect ≡ none
+-- guests, registers, modes, access keys and the next identification stay
+abbrev pub RestStays : (before after : State) → Type 0
+RestStays s t = t ≡ withCells (withEntries (withPermits (withSpaces s (t .spaces)) (t .permits)) (t .entries)) (t .cells)
 
--- DESTROY: "Every valid entry for it, in every list, becomes revoked. Permits vanish; frames are free for use again."
+-- paper 02, M-101: in any scratch m, the frames of which G holds are filled with zeros, and every byte of another frame stays
+pub record BytesGo (s : State) (d : Decision) (G : ℕ → Type 0) : Type 0 where
+  pub gone : (m b : List ℕ) (p : ℕ) → G (p / 4096) → getD (scratchAfter (after s d) (d .effect) m b) p 0 ≡ 0
+  pub kept : (m b : List ℕ) (p : ℕ) → (G (p / 4096) → ⊥) → getD (scratchAfter (after s d) (d .effect) m b) p 0 ≡ getD m p 0
+
+-- DESTROY: "Every valid entry for it, in every list, becomes revoked. Permits vanish; frames are free for use again." Paper 02,
+-- M-101: "destroying fills the frames with zeros as well".
 pub record DestroyEffect (s : State) (g i : ℕ) (d : Decision) : Type 0 where
   pub slot : ℕ
   pub space : IsSpace s i slot
@@ -114,7 +120,8 @@ pub record DestroyEffect (s : State) (g i : ℕ) (d : Decision) : Type 0 where
   pub permits : PermitsGo (s .permits) (after s d .permits) (λ u. u ≡ slot)
   pub entries : (h n : ℕ) → IsGuest h → IsEntry n → Withdrawn (λ u. u ≡ slot) (entryAt (s .entries) h n) (entryAt (after s d .entries) h n)
   pub cells : CellsGo (s .cells) (after s d .cells) (HasFrame (layout s) (s .spaces) slot)
-  pub rest : RestStays s d
+  pub bytes : BytesGo s d (HasFrame (layout s) (s .spaces) slot)
+  pub rest : RestStays s (after s d)
 
 -- ISOLATE: "All permits for it go; other guests' valid entries for it become revoked, the owner's stay."
 pub record IsolateEffect (s : State) (g i : ℕ) (d : Decision) : Type 0 where
@@ -125,10 +132,11 @@ pub record IsolateEffect (s : State) (g i : ℕ) (d : Decision) : Type 0 where
   pub permits : PermitsGo (s .permits) (after s d .permits) (λ u. u ≡ slot)
   pub entries : (h n : ℕ) → IsGuest h → IsEntry n → Withdrawn (λ u. (u ≡ slot) × (h ≢ g)) (entryAt (s .entries) h n) (entryAt (after s d .entries) h n)
   pub cells : after s d .cells ≡ s .cells
-  pub rest : RestStays s d
+  pub bytes : (m b : List ℕ) → scratchAfter (after s d) (d .effect) m b ≡ m
+  pub rest : RestStays s (after s d)
 
 -- RESET: "all the caller's entries become unused, its data spaces are destroyed, its primary is isolated. Primary bytes,
--- registers and mode stay"
+-- registers and mode stay"; paper 02, M-101: "also in RESET"
 pub record Owned (s : State) (g u : ℕ) : Type 0 where
   pub live : Live (s .spaces) u
   pub owner : spaceAt (s .spaces) u .owner ≡ g
@@ -136,14 +144,19 @@ pub record Owned (s : State) (g u : ℕ) : Type 0 where
 abbrev pub OwnedData : State → (guest slot : ℕ) → Type 0
 OwnedData s g u = Owned s g u × (spaceAt (s .spaces) u .name ≢ baseName)
 
+-- the frame f is one of a data space of guest g
+abbrev pub DataFrame : State → (guest frame : ℕ) → Type 0
+DataFrame s g f = (u : ℕ) × (OwnedData s g u × HasFrame (layout s) (s .spaces) u f)
+
 pub record ResetEffect (s : State) (g : ℕ) (d : Decision) : Type 0 where
   pub unused : (n : ℕ) → IsEntry n → entryAt (after s d .entries) g n .standing ≡ Unused
   pub released : (n : ℕ) → IsEntry n → entryAt (after s d .entries) g n ≡ released (entryAt (s .entries) g n)
   pub spaces : SpacesGo (s .spaces) (after s d .spaces) (OwnedData s g)
   pub permits : PermitsGo (s .permits) (after s d .permits) (Owned s g)
   pub entries : (h n : ℕ) → h ≢ g → IsGuest h → IsEntry n → Withdrawn (Owned s g) (entryAt (s .entries) h n) (entryAt (after s d .entries) h n)
-  pub cells : CellsGo (s .cells) (after s d .cells) (λ f. (u : ℕ) × (OwnedData s g u × HasFrame (layout s) (s .spaces) u f))
-  pub rest : RestStays s d
+  pub cells : CellsGo (s .cells) (after s d .cells) (DataFrame s g)
+  pub bytes : BytesGo s d (DataFrame s g)
+  pub rest : RestStays s (after s d)
 
 -- One law of making serves both.
 make-does : (s : State) (hs : List Guest) (g name pages : ℕ) (c : Change) (d : Decision) → Sound s → Sound (after s d)
@@ -166,7 +179,7 @@ make-does s hs g name pages c d ok fine to m =
       next = ap (λ (y : State). y .next) to;
       value = refl;
       blank = λ p b. ap (λ (y : State). cellAt (y .cells) (freeRun s pages + p)) to ∙ ok .cells .free (freeRun s pages + p) (lowest-run s pages .found (m .run) .free p b);
-      zeros = λ k b. clear-own (applied s c) (rw (m .is) at fine) u k (rw there (ok .head .next-low)) ∙ ap (λ (y : Space). replicate (y .pages * 4096) 0) there;
+      zeros = λ k b. clear-own (applied s c) (rw (m .is) at fine) u k ∙ ap (λ (y : Space). replicate (y .pages * 4096) 0) there;
     })
 
 -- One law of withdrawing serves all three.
@@ -181,6 +194,13 @@ module _ (s : State) (gone closed : ℕ → Bool) where
   cells-go G d = record {
     gone = λ f y. withdrawn-cell s gone closed f ∙ yes! _ _ (d f .of y);
     kept = λ f n. withdrawn-cell s gone closed f ∙ no! _ _ (not-so _ (λ e. n (d f .to e)));
+  }
+
+  bytes-go : (c : Change) (G : ℕ → Type 0) → ((f : ℕ) → Decides (freed (layout s) (s .spaces) gone f) (G f)) → BytesGo s (destroying s gone c) G
+  unfolding scratchAfter
+  bytes-go c G d = record {
+    gone = λ m b p y. clears-on _ m p (d (p / 4096) .of y);
+    kept = λ m b p n. clears-off _ m p (not-so _ (λ e. n (d (p / 4096) .to e)));
   }
 
   permits-go : (C : ℕ → Type 0) → ((u : ℕ) → Decides (closed u) (C u)) → PermitsGo (s .permits) (withdrawn gone closed s .permits) C
@@ -208,9 +228,9 @@ module _ (s : State) (gone closed : ℕ → Bool) where
       let same = ok .spaces .apart u v p q (w .1) l (rw (w .2) at a) b (sym (withdrawn-frame s gone closed u p (w .0)) ∙ e) .0 in
       true-false y (ap gone (sym same) ∙ w .0)
 
-  rest-stays : (c : Change) → applied s c ≡ withdrawn gone closed s → RestStays s (accept 0 c none)
+  rest-stays : RestStays s (withdrawn gone closed s)
   unfolding withdrawn
-  rest-stays c e = record { tables = rw e refl; bytes = refl }
+  rest-stays = refl
 
 -- an entry that was revoked is released like one that was valid
 released-revoked : (t : ℕ → Bool) (e : Entry) → released (revoked t e) ≡ released e
@@ -275,6 +295,8 @@ module _ (s : State) (m : ℕ) (c : Caller) (n : ℕ) where
       let p = all s m c n (Destroy i) done .performed in
       let u = slotOf (s .spaces) i in
       let space = is-space s i (p .owning .slot) in
+      let d-goes : (f : ℕ) → Decides (freed (layout s) (s .spaces) (eqb u) f) (HasFrame (layout s) (s .spaces) u f) = λ f.
+          d-map (λ (v, b, (e, h)). rw (eqb-true u v e) h) (λ h. (u, p .owning .slot, (eq-eqb u u refl, h))) (d-freed (layout s) (s .spaces) (eqb u) f) in
       rw (p .is) (record {
         slot = u;
         space = space;
@@ -285,13 +307,13 @@ module _ (s : State) (m : ℕ) (c : Caller) (n : ℕ) where
         permits = permits-go s (eqb u) (eqb u) (λ v. v ≡ u) (d-same u);
         entries = λ h k. entry-withdrawn s (eqb u) (eqb u) (λ v. v ≡ u) h k (λ v.
             d-map (⊎-elim (λ e. e) (λ e. e .0)) (λ e. inl e) (d-either (d-same u v) (d-both (d-same u v) (d-not (d-eq (spaceAt (s .spaces) v .owner) h)))));
-        cells = cells-go s (eqb u) (eqb u) (HasFrame (layout s) (s .spaces) u) (λ f.
-            d-map (λ (v, b, (e, h)). rw (eqb-true u v e) h) (λ h. (u, p .owning .slot, (eq-eqb u u refl, h))) (d-freed (layout s) (s .spaces) (eqb u) f));
-        rest = rest-stays s (eqb u) (eqb u) _ refl;
+        cells = cells-go s (eqb u) (eqb u) _ d-goes;
+        bytes = bytes-go s (eqb u) (eqb u) _ _ d-goes;
+        rest = rest-stays s (eqb u) (eqb u);
       })
 
   pub isolate-does : (i : ℕ) → Done s m c n (Isolate i) → IsolateEffect s g i (by s m c n (Isolate i))
-  unfolding Performed loses withdrawn
+  unfolding Performed loses withdrawn scratchAfter
   isolate-does i done =
       let p = all s m c n (Isolate i) done .performed in
       let u = slotOf (s .spaces) i in
@@ -307,7 +329,8 @@ module _ (s : State) (m : ℕ) (c : Caller) (n : ℕ) where
             d-map (⊎-elim (λ z. absurd z) (λ e. (e .0, λ q. e .1 (owner v (e .0) ∙ sym q)))) (λ e. inr (e .0, λ q. e .1 (sym q ∙ owner v (e .0))))
             (d-either d-never (d-both (d-same u v) (d-not (d-eq (spaceAt (s .spaces) v .owner) h)))));
         cells = none-freed (layout s) (s .spaces) (s .cells);
-        rest = rest-stays s keep (eqb u) _ refl;
+        bytes = λ k b. refl;
+        rest = rest-stays s keep (eqb u);
       })
 
   pub reset-does : Done s m c n Reset → ResetEffect s g (by s m c n Reset)
@@ -319,6 +342,9 @@ module _ (s : State) (m : ℕ) (c : Caller) (n : ℕ) where
       let closed : ℕ → Bool = λ u. isOwned g (spaceAt (s .spaces) u) in
       let es = withdrawn gone closed s .entries in
       let d-data : (u : ℕ) → Decides (gone u) (OwnedData s g u) = λ u. d-both (d-owned s g u) (d-not (d-eq _ baseName)) in
+      let d-goes : (f : ℕ) → Decides (freed (layout s) (s .spaces) gone f) (DataFrame s g f) = λ f.
+          d-map (λ (u, b, (e, h)). (u, (d-data u .to e, h))) (λ (u, (o, h)). (u, live-slot (s .spaces) u 32 (ok s m c n Reset done .spaces .len) (o .0 .live), (d-data u .of o, h)))
+          (d-freed (layout s) (s .spaces) gone f) in
       rw (p .is) (record {
         unused = λ k j. ap (λ (x : Entry). x .standing) (released-own es g k i j) ∙ released-unused (entryAt es g k);
         released = λ k j. released-own es g k i j ∙ ap released (withdrawn-revoked s gone closed g k i j) ∙ released-revoked _ (entryAt (s .entries) g k);
@@ -327,8 +353,7 @@ module _ (s : State) (m : ℕ) (c : Caller) (n : ℕ) where
         entries = λ h k ne a j. rw (released-other es g h k ne a j) (entry-withdrawn s gone closed (Owned s g) h k (λ u.
             d-map (⊎-elim (λ e. e .0) (λ e. e .0)) (λ o. inr (o, λ q. ne (sym q ∙ o .owner)))
             (d-either (d-data u) (d-both (d-owned s g u) (d-not (d-eq (spaceAt (s .spaces) u .owner) h))))) a j);
-        cells = cells-go s gone closed _ (λ f.
-            d-map (λ (u, b, (e, h)). (u, (d-data u .to e, h))) (λ (u, (o, h)). (u, live-slot (s .spaces) u 32 (ok s m c n Reset done .spaces .len) (o .0 .live), (d-data u .of o, h)))
-            (d-freed (layout s) (s .spaces) gone f));
-        rest = record { tables = refl; bytes = refl };
+        cells = cells-go s gone closed _ d-goes;
+        bytes = bytes-go s gone closed _ _ d-goes;
+        rest = refl;
       })

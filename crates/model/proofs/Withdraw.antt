@@ -68,6 +68,11 @@ unfolding blanked
 none-freed l ss cs =
     map-same _ cs noCell (λ f _. no! noCell _ (not-so _ (λ e. let (u, b, (gone, has)) = d-freed l ss (λ v. false) f .to e in true-false gone refl)))
 
+-- and all spaces
+pub none-vacated : (ss : List Space) → vacated (λ u. false) ss ≡ ss
+unfolding vacated
+none-vacated ss = map-same _ ss noSpace (λ u _. no! noSpace _ refl)
+
 -- What stands where after a withdrawal.
 module _ (s : State) (gone closed : ℕ → Bool) where
   pub withdrawn-lengths : (length (withdrawn gone closed s .spaces) ≡ length (s .spaces)) × (length (withdrawn gone closed s .permits) ≡ length (s .permits)) × (length (withdrawn gone closed s .entries) ≡ length (s .entries)) × (length (withdrawn gone closed s .cells) ≡ length (s .cells))

@@ -22,12 +22,12 @@ use Rattle.model.specs.declared.Translation.{Translation}
 use Rattle.model.specs.declared.Translation.the-variants.{Reached, Refused}
 use Rattle.model.specs.Arguments.{arguments, checkAll}
 use Rattle.model.specs.Classes.{classOf}
-use Rattle.model.specs.Changes.{allows, raised, released, applied}
+use Rattle.model.specs.Changes.{allows, raised, released, freed, applied}
 use Rattle.model.specs.Decision.{Decision, Effect, none, clear, fetch, store, refuse, accept, done, check}
-use Rattle.model.specs.Frames.{layout, frameOf, framesOf, sizeOf}
+use Rattle.model.specs.Frames.{layout, frameOf, sizeOf, hasFrame}
 use Rattle.model.specs.Keys.{keyPermits}
 use Rattle.model.specs.Names.{baseName}
-use Rattle.model.specs.Searches.{enrolled, slotOf, slotNamed, dataSpaces, freeSlot, freeRun, freeEntry}
+use Rattle.model.specs.Searches.{enrolled, isData, slotOf, slotNamed, dataSpaces, freeSlot, freeRun, freeEntry}
 use Rattle.model.specs.Sizes.{guestCount, slotCount, frameSize, spentIdentification}
 use Rattle.model.specs.SoundTest.{sound}
 use Rattle.model.specs.Tables.{spaceAt, guestAt, guestPlace, cpuAt, cpuPlace, grantAt, permitPlace, entryAt, entryPlace}
@@ -44,7 +44,7 @@ making s pages c =
     check (ltb (freeSlot (s .spaces)) slotCount) SlotsUsed
     (check (ltb (s .next) spentIdentification) NoIdentification
     (check (ltb (freeRun s pages) (s .frames)) NoRun
-    (accept (s .next) c (clear (framesOf (applied s c) (freeSlot (s .spaces)))))))
+    (accept (s .next) c (clear (hasFrame (layout (applied s c)) (applied s c .spaces) (freeSlot (s .spaces)))))))
 
 -- "ENROL guest, pages 1-512, allowance 0-31, share 0/1, L, ASF 0/1: then 3, 9, 11, 10. Makes the guest's primary space,
 -- named BASE. Value: its identification."
@@ -73,6 +73,11 @@ owning s g u d =
     check (ltb u slotCount) NoSpace
     (check (eqb (spaceAt (s .spaces) u .owner) g) NotOwner d)
 
+-- Paper 02, M-101: "destroying fills the frames with zeros as well, also in RESET". The frames are those that the spaces in the
+-- slots `gone` have before the change.
+abbrev pub destroying : State → (gone : ℕ → Bool) → Change → Decision
+destroying s gone c = accept 0 c (clear (freed (layout s) (s .spaces) gone))
+
 -- "DESTROY space: 5, 6, 20. Every valid entry for it, in every list, becomes revoked. Permits vanish; frames are free for
 -- use again."
 unfoldable pub destroy : State → (guest id : ℕ) → Decision
@@ -80,7 +85,7 @@ destroy s g i =
     let u = slotOf (s .spaces) i in
     owning s g u
     (check (not (eqb (spaceAt (s .spaces) u .name) baseName)) PrimarySpace
-    (done (DestroySpace u)))
+    (destroying s (eqb u) (DestroySpace u)))
 
 -- "PERMIT space, guest h, read or write: 3 .., 5, 6, 7. The right becomes the greater of old and new; write includes read."
 unfoldable pub permit : State → (guest id other : ℕ) → Right → Decision
@@ -169,8 +174,8 @@ storing s c r a n = access s (accessKey s c) a n true (λ u. store u a) (target 
 
 -- "RESET: all the caller's entries become unused, its data spaces are destroyed, its primary is isolated." No check follows
 -- check 2.
-unfoldable pub reset : (guest : ℕ) → Decision
-reset g = done (ResetGuest g)
+unfoldable pub reset : State → (guest : ℕ) → Decision
+reset s g = destroying s (λ u. isData g (spaceAt (s .spaces) u)) (ResetGuest g)
 
 -- Paper 02, M-100: "A guest's KEY call sets its access key".
 unfoldable pub setKey : Caller → (key : ℕ) → Decision
@@ -198,7 +203,7 @@ perform s c (Load register value) n = load c register value
 perform s c (Mode m) n = mode s c m
 perform s c (Fetch register address) n = fetching s c register address n
 perform s c (Store register address) n = storing s c register address n
-perform s c Reset n = reset (c .guest)
+perform s c Reset n = reset s (c .guest)
 perform s c (Key key) n = setKey c key
 perform s c (Block id address key mark) n = block s (c .guest) id address key mark
 

@@ -1,8 +1,7 @@
--- A decision: what a call answers, what it changes in the tables, and what it does to bytes. The change and the effect are
--- data: the tables and the bytes after the call follow from them (`after` here, Step).
+-- A decision: what a call answers, what it changes in the tables, and what it does to bytes. Tables and bytes after the call follow
+-- from the change and the effect (`after` here, Step).
 use Prim.Native.Nat.{ℕ}
 use mathlib.Core.Bool.{Bool, true, false}
-use mathlib.Core.List.{List}
 use Rattle.model.specs.declared.Answer.{Answer}
 use Rattle.model.specs.declared.Answer.the-variants.{Done}
 use Rattle.model.specs.declared.Change.{Change}
@@ -10,11 +9,11 @@ use Rattle.model.specs.declared.Change.the-variants.{Keep}
 use Rattle.model.specs.declared.State.{State}
 use Rattle.model.specs.Changes.{applied}
 
--- `clear` fills frames with zeros; `fetch` reads the lent buffer's length of bytes of the space in a slot, from an address
--- on; `store` writes the buffer there. A slot is one of the tables after the call.
+-- `clear` fills frames with zeros, a set of frame numbers; `fetch` reads the lent buffer's length of bytes of the space in a slot,
+-- from an address on; `store` writes the buffer there. A slot is one of the tables after the call.
 pub data Effect : Type 0 where
   none : Effect
-  clear : (frames : List ℕ) → Effect
+  clear : (frames : ℕ → Bool) → Effect
   fetch : (slot address : ℕ) → Effect
   store : (slot address : ℕ) → Effect
 

@@ -5,7 +5,7 @@ use mathlib.Core.List.{List}
 use lib.Dec.{eqb}
 use Rattle.lists.specs.Bytes.{get}
 use Rattle.lists.specs.Choice.{implies}
-use Rattle.lists.specs.Places.{every, some, placesFrom}
+use Rattle.lists.specs.Places.{every, some}
 use Rattle.model.specs.declared.Space.{Space}
 use Rattle.model.specs.declared.State.{State}
 use Rattle.model.specs.Sizes.{frameSize, slotCount}
@@ -32,10 +32,6 @@ sizeOf ss u = spaceAt ss u .pages * frameSize
 -- the bytes of the space in slot u, from address 0 to its last
 unfoldable pub bytesOf : State → (slot : ℕ) → (scratch : List ℕ) → List ℕ
 bytesOf s u m = get (placeOf (layout s) u) 0 (sizeOf (s .spaces) u) m
-
--- the frames of the space in slot u, in page order
-unfoldable pub framesOf : State → (slot : ℕ) → List ℕ
-framesOf s u = placesFrom (frameOf (layout s) u) 0 (spaceAt (s .spaces) u .pages)
 
 -- the space in slot u has the frame f
 unfoldable pub hasFrame : Layout → List Space → (slot frame : ℕ) → Bool

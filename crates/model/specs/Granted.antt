@@ -18,13 +18,13 @@ use Rattle.model.specs.declared.Standing.the-variants.{Valid}
 use Rattle.model.specs.declared.State.{State}
 use Rattle.model.specs.declared.Translation.the-variants.{Reached}
 use Rattle.model.specs.Arguments.{Argument, arguments}
-use Rattle.model.specs.Calls.{enrolling, creating, entitled, writes, target, accessKey, goodCaller, ready}
+use Rattle.model.specs.Calls.{enrolling, creating, destroying, entitled, writes, target, accessKey, goodCaller, ready}
 use Rattle.model.specs.Changes.{raised, released, applied}
 use Rattle.model.specs.Decision.{Decision, Effect, none, clear, fetch, store, accept, done}
-use Rattle.model.specs.Frames.{layout, frameOf, framesOf, sizeOf}
+use Rattle.model.specs.Frames.{layout, frameOf, sizeOf, hasFrame}
 use Rattle.model.specs.Keys.{keyPermits}
 use Rattle.model.specs.Names.{baseName}
-use Rattle.model.specs.Searches.{slotOf, slotNamed, dataSpaces, freeSlot, freeRun, freeEntry}
+use Rattle.model.specs.Searches.{isData, slotOf, slotNamed, dataSpaces, freeSlot, freeRun, freeEntry}
 use Rattle.model.specs.Sizes.{slotCount, frameSize, spentIdentification}
 use Rattle.model.specs.Tables.{spaceAt, guestAt, cpuPlace, grantAt, permitPlace, entryAt, entryPlace}
 use Rattle.model.specs.Tokens.{token, entryNumber, malformed, assigned}
@@ -34,7 +34,7 @@ pub record Made (s : State) (pages : ℕ) (c : Change) (d : Decision) : Type 0 w
   pub slot : freeSlot (s .spaces) < slotCount
   pub next : s .next < spentIdentification
   pub run : freeRun s pages < s .frames
-  pub is : d ≡ accept (s .next) c (clear (framesOf (applied s c) (freeSlot (s .spaces))))
+  pub is : d ≡ accept (s .next) c (clear (hasFrame (layout (applied s c)) (applied s c .spaces) (freeSlot (s .spaces))))
 
 pub record Created (s : State) (g name pages : ℕ) (d : Decision) : Type 0 where
   pub new : slotCount ≤ slotNamed (s .spaces) g name
@@ -49,7 +49,7 @@ pub record Owning (s : State) (g u : ℕ) : Type 0 where
 pub record Destroyed (s : State) (g i : ℕ) (d : Decision) : Type 0 where
   pub owning : Owning s g (slotOf (s .spaces) i)
   pub not-primary : spaceAt (s .spaces) (slotOf (s .spaces) i) .name ≢ baseName
-  pub is : d ≡ done (DestroySpace (slotOf (s .spaces) i))
+  pub is : d ≡ destroying s (eqb (slotOf (s .spaces) i)) (DestroySpace (slotOf (s .spaces) i))
 
 pub record Permitted (s : State) (g i h : ℕ) (r : Right) (d : Decision) : Type 0 where
   pub owning : Owning s g (slotOf (s .spaces) i)
@@ -98,8 +98,8 @@ pub record Accessed (s : State) (c : Caller) (r a n : ℕ) (storing : Bool) (f :
   pub key : keyPermits s storing (accessKey s c) slot a n ≡ true
   pub is : d ≡ accept 0 Keep (f slot)
 
-pub record ResetDone (g : ℕ) (d : Decision) : Type 0 where
-  pub is : d ≡ done (ResetGuest g)
+pub record ResetDone (s : State) (g : ℕ) (d : Decision) : Type 0 where
+  pub is : d ≡ destroying s (λ u. isData g (spaceAt (s .spaces) u)) (ResetGuest g)
 
 pub record KeySet (c : Caller) (k : ℕ) (d : Decision) : Type 0 where
   pub is : d ≡ done (SetKey (cpuPlace c) k)
@@ -122,7 +122,7 @@ Performed s c (Load register value) n d = Loaded c register value d
 Performed s c (Mode m) n d = ModeSet s c m d
 Performed s c (Fetch register address) n d = Accessed s c register address n false (λ u. fetch u address) d
 Performed s c (Store register address) n d = Accessed s c register address n true (λ u. store u address) d
-Performed s c Reset n d = ResetDone (c .guest) d
+Performed s c Reset n d = ResetDone s (c .guest) d
 Performed s c (Key key) n d = KeySet c key d
 Performed s c (Block id address key mark) n d = Blocked s (c .guest) id address key mark d
 

@@ -1,11 +1,14 @@
 -- One call on tables and bytes, and a list of calls. Paper 01, "What the statements owe": for each input "the answer number,
 -- the value, the tables after it, and every byte of scratch and buffer"; "Demand 3, word by word": "Each gets the tables and
 -- scratch that the one before it returned or left. Each fetch or store has its own buffer".
-use Prim.Native.Nat.{ℕ, _+_, _*_}
+use Prim.Native.Nat.{ℕ, _*_, _/_}
+use mathlib.Core.Bool.{Bool}
 use mathlib.Core.List.{List, [], _∷_}
 use mathlib.Core.Path.{_≡_}
-use lib.ListN.{length, replicate}
+use lib.ListN.{length}
 use Rattle.lists.specs.Bytes.{put, get}
+use Rattle.lists.specs.Choice.{choose}
+use Rattle.lists.specs.Places.{mapPlaces}
 use Rattle.model.specs.declared.Answer.{Answer}
 use Rattle.model.specs.declared.Call.{Call}
 use Rattle.model.specs.declared.State.{State}
@@ -15,13 +18,9 @@ use Rattle.model.specs.Frames.{layout, placeOf}
 use Rattle.model.specs.Sizes.{frameSize}
 use Rattle.model.specs.Sound.{Sound}
 
--- scratch with a frame filled with zeros
-unfoldable pub clearFrame : (frame : ℕ) → List ℕ → List ℕ
-clearFrame f m = put (λ a. f * frameSize + a) 0 (replicate frameSize 0) m
-
-unfoldable pub clearFrames : (frames : List ℕ) → List ℕ → List ℕ
-clearFrames [] m = m
-clearFrames (f ∷ fs) m = clearFrames fs (clearFrame f m)
+-- scratch with frames filled with zeros; the byte at place p is one of frame p / 4,096
+unfoldable pub clearFrames : (frames : ℕ → Bool) → List ℕ → List ℕ
+clearFrames fs m = mapPlaces (λ p x. choose (fs (p / frameSize)) 0 x) m
 
 -- "a store replaces only the bytes named". `s` are the tables after the call, `m` scratch, `b` the lent buffer.
 unfoldable pub scratchAfter : State → Effect → (m b : List ℕ) → List ℕ

@@ -16,10 +16,9 @@ use Rattle.model.specs.declared.State.{State}
 use Rattle.model.specs.Calls.{ready, judge}
 use Rattle.model.specs.Leaves.{scratchJudged, bufferJudged}
 use Rattle.model.specs.Promise.{Promise, stepOf}
-use Rattle.model.specs.Replies.{reply, replied, callOf}
+use Rattle.model.specs.Replies.{reply, replied, callOf, Carried}
 use Rattle.model.specs.SoundTest.{sound}
 use Rattle.model.proofs.Promise.{promise-unready, promise-ready}
-use Rattle.making.specs.Made.{MadeBy}
 use Rattle.calls.specs.Served.{Served}
 use Rattle.calls.proofs.Served.{still, made, asked, fetched, stored}
 use Rattle.calls.proofs.Touches.{touch, LeavesTables, LeavesScratch, LeavesBuffer, Unmoving}
@@ -62,7 +61,7 @@ module _ (s : State) (c : Caller) (k : Operation) (m : List ℕ) (x : Bool) wher
 
   -- a space made
   pub makes : Unmoving (touch k) → LeavesBuffer (touch k) → (r : Reply) (m' : List ℕ) → x ≡ ready s (length m) → x ≡ true
-      → MadeBy s (judge s (callOf c k) 0) r m m' → Promise (stepOf s m (callOf c k) []) (r .answer) (r .state) m' []
+      → Carried s (judge s (callOf c k) 0) r m m' → Promise (stepOf s m (callOf c k) []) (r .answer) (r .state) m' []
   makes u lb r m' e t q = serves s (callOf c k) m [] m' [] r x e t (made s c k m [] u lb r m' q)
 
   -- bytes moved
