@@ -1,34 +1,32 @@
 -- The paper's own claim of the first half, as an instance of the general one; and what it says of keys. Assumes nothing.
-use Prim.Native.Nat.{ℕ}
+use Prim.Native.Nat.{ℕ, _/_}
 use mathlib.Core.Bool.{Bool}
 use mathlib.Core.List.{List, [], _∷_}
 use mathlib.Core.Path.{refl, sym, ap}
-use native.Mathlib.Omega.{arith}
 use lib.Dec.{eqb}
-use borrow.Author.Tests.{eqb-true, eqb-false, eq-eqb, ne-eqb}
-use Rattle.lists.proofs.Bytes.{get-agree}
+use borrow.Author.Tests.{eqb-true, eq-eqb, ne-eqb}
 use Rattle.model.specs.declared.State.{State}
 use Rattle.model.specs.Calls.{accessKey}
-use Rattle.model.specs.Frames.{layout, placeOf, sizeOf, bytesOf}
-use Rattle.model.specs.Sound.{Live, Sound}
-use Rattle.model.specs.Step.{Machine, Issue, Outcome, step, run}
+use Rattle.model.specs.Frames.{layout}
+use Rattle.model.specs.Sound.{Live}
+use Rattle.model.specs.Step.{Machine, Ready, Issue, Outcome, step, run}
 use Rattle.model.specs.Tables.{spaceAt}
-use Rattle.model.proofs.SpaceBytes.{apart}
+use Rattle.model.proofs.Addresses.{place-has}
+use Rattle.model.proofs.Clearing.{frame-agree}
+use Rattle.model.proofs.Sound.{ready-kept}
 use Rattle.isolation.specs.KeysAgree.{AllSameKeys, KeysAgree}
 use Rattle.isolation.specs.TwoRuns.{EqualOutside, Alike, Turn, Varied, SameCall, SameRuns, OutsideSpace, StoresVaried, SameOutside, AllSameOutside, Isolation}
+use Rattle.isolation.proofs.Outside.{free-outside, equal-live}
 use Rattle.isolation.proofs.TwoRuns.{two-runs}
 
 -- the set of one space
 abbrev just : ℕ → ℕ → Bool
 just x = eqb x
 
--- scratch that is equal outside one space has all other live spaces equal
-outside-equal : (s : State) → Sound s → (u : ℕ) (m₁ m₂ : List ℕ) → Live (s .spaces) u → OutsideSpace s u m₁ m₂ → EqualOutside (just (spaceAt (s .spaces) u .id)) s m₁ m₂
-unfolding bytesOf
-outside-equal s ok u m₁ m₂ lu o v lv n =
-    get-agree (placeOf (layout s) v) 0 (sizeOf (s .spaces) v) m₁ m₂ (λ k _ h.
-    o .bytes (placeOf (layout s) v k) (λ a b e.
-    eqb-false _ _ n (ap (λ w. spaceAt (s .spaces) w .id) (apart s ok u v a k lu lv b (omega arith) e .0))))
+-- scratch that is equal outside one live space
+outside-equal : (s : State) (u : ℕ) (m₁ m₂ : List ℕ) → Live (s .spaces) u → OutsideSpace s u m₁ m₂ → EqualOutside (just (spaceAt (s .spaces) u .id)) s m₁ m₂
+outside-equal s u m₁ m₂ live o p out =
+    o .bytes p (λ a b e. out u live (eq-eqb (spaceAt (s .spaces) u .id) _ refl) (rw (← e) (place-has (s .spaces) (layout s) u a b)))
 
 -- the two lists as turns with that one set throughout
 turns : (id : ℕ) → (first second : List Issue) → List Turn
@@ -50,31 +48,34 @@ turns-varied x m (i ∷ is) (j ∷ js) v = (
   turns-varied x (step m i .machine) is js (v .1),
 )
 
-same-outside : (x : ℕ) (m₁ m₂ : Machine) (i j : Issue) → SameCall (just x) m₁ m₂ i j → SameOutside x m₁ i (step m₁ i) (step m₂ j)
-same-outside x m₁ m₂ i j c = record {
+same-outside : (x : ℕ) (m₁ m₂ : Machine) (i j : Issue) → Ready (step m₁ i .machine) → SameCall (just x) m₁ m₂ i j → SameOutside x m₁ i (step m₁ i) (step m₂ j)
+same-outside x m₁ m₂ i j ready c = record {
   number = c .number;
   value = c .value;
   answer = c .answer;
   tables = c .alike .tables;
-  bytes = λ u l ne. c .alike .bytes u l (ne-eqb x _ (λ e. ne (sym e)));
+  bytes = λ u l ne. equal-live (just x) (step m₁ i .machine .tables) (ready .sound) u l (ne-eqb x _ (λ e. ne (sym e))) _ _ (c .alike .bytes);
+  free = λ f free. frame-agree f _ _ (c .alike .room) (λ p e. c .alike .bytes p (free-outside (just x) (step m₁ i .machine .tables) (ready .sound) (p / 4096) (rw e free)));
   buffer = λ away. c .buffer (λ r. away (rw (← (eqb-true x (r .id) (r .inside))) at (r .reaches)));
 }
 
-all-same : (x : ℕ) (first second : List Issue) (m₁ m₂ : Machine) → StoresVaried x m₁ first second → SameRuns m₁ m₂ (turns x first second)
+all-same : (x : ℕ) (first second : List Issue) (m₁ m₂ : Machine) → Ready m₁ → StoresVaried x m₁ first second → SameRuns m₁ m₂ (turns x first second)
     → AllSameOutside x m₁ first (run m₁ first) (run m₂ second)
 unfolding turns SameRuns AllSameOutside StoresVaried run
-all-same x [] [] m₁ m₂ v r = tt
-all-same x [] (j ∷ js) m₁ m₂ v r = v
-all-same x (i ∷ is) [] m₁ m₂ v r = v
-all-same x (i ∷ is) (j ∷ js) m₁ m₂ v r = (same-outside x m₁ m₂ i j (r .0), all-same x is js (step m₁ i .machine) (step m₂ j .machine) (v .1) (r .1))
+all-same x [] [] m₁ m₂ ready v r = tt
+all-same x [] (j ∷ js) m₁ m₂ ready v r = v
+all-same x (i ∷ is) [] m₁ m₂ ready v r = v
+all-same x (i ∷ is) (j ∷ js) m₁ m₂ ready v r =
+    let after = ready-kept m₁ i ready in
+    (same-outside x m₁ m₂ i j after (r .0), all-same x is js (step m₁ i .machine) (step m₂ j .machine) after (v .1) (r .1))
 
 pub isolation : Isolation
 isolation s scratch₁ scratch₂ u first second ready live outside varied =
     let x = spaceAt (s .spaces) u .id in
     let m₁ : Machine = record { tables = s; scratch = scratch₁ } in
     let m₂ : Machine = record { tables = s; scratch = scratch₂ } in
-    let alike : Alike (just x) m₁ m₂ = record { tables = refl; room = outside .room; bytes = outside-equal s (ready .sound) u scratch₁ scratch₂ live outside } in
-    all-same x first second m₁ m₂ varied (two-runs (just x) (turns x first second) m₁ m₂ ready alike (turns-varied x m₁ first second varied))
+    let alike : Alike (just x) m₁ m₂ = record { tables = refl; room = outside .room; bytes = outside-equal s u scratch₁ scratch₂ live outside } in
+    all-same x first second m₁ m₂ ready varied (two-runs (just x) (turns x first second) m₁ m₂ ready alike (turns-varied x m₁ first second varied))
 
 -- Keys are in the tables, and the tables are equal.
 all-same-keys : (x : ℕ) (is : List Issue) (os ps : List Outcome) (m : Machine) → AllSameOutside x m is os ps → AllSameKeys os ps

@@ -1,5 +1,7 @@
 pub mod Reaching
 pub mod Moved
+pub mod Unreached
+pub mod Outside
 pub mod TwoRuns
 pub mod Isolation
 pub mod Record
@@ -16,3 +18,4 @@ pub mod NoGround
 pub mod Records
 pub mod Handed
 pub mod Kept
+pub mod Freed

@@ -122,7 +122,7 @@ module _ (s : State) (m : Memory) (ok : Sound s) (rem : Remembers s m) where
       (λ h t j z f. token-withdrawn (λ v. false) one _ h t j z f (λ u l. rw (id-slot s ok i u (done .owning .slot) l, rem .owners u l) refl)))
 
   -- RESET: the caller's own entries are released; others lose every entry for a space of the caller
-  pub reset-told : (g : ℕ) (d : Decision) → IsGuest g → ResetDone g d → Remembers (after s d) (told (reset g) m)
+  pub reset-told : (g : ℕ) (d : Decision) → IsGuest g → ResetDone s g d → Remembers (after s d) (told (reset g) m)
   unfolding ownerBy homeBy grantBy tokenBy modeBy loadBy resetTables loses
   reset-told g d i done =
       rw (done .is)

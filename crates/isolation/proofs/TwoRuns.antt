@@ -1,58 +1,41 @@
--- The first half of demand 3. The decision sees tables and lengths alone, so both runs decide alike; what is left is bytes:
--- an effect touches only places of its own live space, and two live spaces share none. Assumes nothing.
-use Prim.Native.Nat.{ℕ, _+_, _*_, _/_, _%_}
+-- The first half of demand 3. The decision sees tables and lengths alone, so both runs decide alike; what is left is bytes: a place
+-- outside the live changed spaces was outside them before the call, or the call cleared it. Assumes nothing.
+use Prim.Native.Nat.{ℕ, _+_, _/_, _<_}
 use mathlib.Core.Bool.{Bool, true, false}
 use mathlib.Core.List.{List, [], _∷_}
-use mathlib.Core.Logic.{_⊎_, inl, inr, ⊎-elim}
-use mathlib.Core.Path.{_≡_, refl, sym, ap, ap₂, fun-ext, _∙_}
-use native.Mathlib.Decide.{ℕ-discrete}
+use mathlib.Core.Logic.{_≢_, _⊎_, inl, inr, ⊎-elim}
+use mathlib.Core.Path.{_≡_, refl, sym, ap, ap₂, _∙_}
 use native.Mathlib.Omega.{arith}
-use lib.ListN.{length}
-use Rattle.lists.specs.Bytes.{over, part, put, get}
-use Rattle.lists.proofs.Choice.{true-false, not-so}
-use Rattle.model.specs.declared.Space.{Space}
+use lib.ListN.{length, getD}
+use Rattle.lists.specs.Bytes.{put}
+use Rattle.lists.proofs.Bytes.{put-off, put-agree, get-agree}
+use Rattle.lists.proofs.Choice.{true-false, not-so, true-or-false, choose-eq}
 use Rattle.model.specs.declared.State.{State}
 use Rattle.model.specs.Answers.{number, value}
 use Rattle.model.specs.Decision.{Decision, after, Effect, none, clear, fetch, store}
-use Rattle.model.specs.Frames.{layout, placeOf, bytesOf}
-use Rattle.model.specs.Lawful.{SameSpace, Inside, cleared, Spares, Covers, EffectInside, Lawful}
-use Rattle.model.specs.Sound.{Live, Sound}
-use Rattle.model.specs.Step.{Machine, Ready, Issue, decision, step, scratchAfter, bufferAfter, clearFrames}
+use Rattle.model.specs.Frames.{layout, placeOf}
+use Rattle.model.specs.Lawful.{Inside, cleared, EffectInside, Lawful}
+use Rattle.model.specs.Sound.{Sound}
+use Rattle.model.specs.Step.{Machine, Ready, Issue, decision, step, scratchAfter, bufferAfter}
 use Rattle.model.specs.Tables.{spaceAt}
+use Rattle.model.proofs.Addresses.{place-has}
+use Rattle.model.proofs.Clearing.{clears-at}
 use Rattle.model.proofs.Lawful.{lawful}
 use Rattle.model.proofs.Sound.{ready-kept, length-scratchAfter}
-use Rattle.model.proofs.SpaceBytes.{clear-spared, clear-covered, store-own, store-other, fetch-bytes}
 use Rattle.isolation.specs.Reaches.{Reaches, ReachesIn}
-use Rattle.isolation.specs.TwoRuns.{EqualOutside, Alike, MayDiffer, Grows, Varied, SameCall, SameRuns, TwoRuns}
+use Rattle.isolation.specs.TwoRuns.{Outside, EqualOutside, Alike, MayDiffer, Grows, Varied, SameCall, SameRuns, TwoRuns}
+use Rattle.isolation.proofs.Outside.{outside-before, own-outside}
 use Rattle.isolation.proofs.Reaching.{touches, reaches-one}
-
--- a space in the same frames has the same bytes
-same-bytes : (s t : State) (u : ℕ) (m : List ℕ) → SameSpace s t u → bytesOf t u m ≡ bytesOf s u m
-unfolding bytesOf placeOf
-same-bytes s t u m same =
-    ap₂ (λ (pl : ℕ → ℕ) (n : ℕ). get pl 0 n m)
-    (fun-ext (λ a. ap (λ f. f * 4096 + a % 4096) (same .frames (a / 4096))))
-    (ap (λ (x : Space). x .pages * 4096) (same .space))
 
 -- One decision on two scratch areas that agree outside X. `s` are the tables before it, `d` the decision.
 module _ (X : ℕ → Bool) (s : State) (d : Decision) (ok : Sound (after s d)) (b₁ b₂ m₁ m₂ : List ℕ) (law : Lawful s (length b₁) d)
-    (room₁ : length m₁ ≡ after s d .frames * 4096) (room₂ : length m₂ ≡ after s d .frames * 4096) (long : length b₁ ≡ length b₂)
-    (agree : EqualOutside X s m₁ m₂) where
+    (room : length m₁ ≡ length m₂) (long : length b₁ ≡ length b₂) (agree : EqualOutside X s m₁ m₂) where
   abbrev t : State
   t = after s d
 
-  -- a space live after it agreed before and none of its frames is cleared, or all of them are
-  before : (u : ℕ) → Live (t .spaces) u → X (spaceAt (t .spaces) u .id) ≡ false → ((bytesOf t u m₁ ≡ bytesOf t u m₂) × Spares t (cleared (d .effect)) u) ⊎ Covers t (cleared (d .effect)) u
-  before u l n = ⊎-elim (λ (k : SameSpace s t u × Spares t (cleared (d .effect)) u). inl (kept (k .0), k .1)) (λ c. inr c) (law .kept u l)
-    where
-      kept : SameSpace s t u → bytesOf t u m₁ ≡ bytesOf t u m₂
-      kept k = same-bytes s t u m₁ k ∙ agree u (k .live) (rw (k .space) at n) ∙ sym (same-bytes s t u m₂ k)
-
-  -- a space has a page, so where nothing is cleared it agreed before
-  not-cleared : cleared (d .effect) ≡ [] → (u : ℕ) → Live (t .spaces) u → X (spaceAt (t .spaces) u .id) ≡ false → bytesOf t u m₁ ≡ bytesOf t u m₂
-  not-cleared clean u l n =
-      ⊎-elim (λ (k : (bytesOf t u m₁ ≡ bytesOf t u m₂) × Spares t (cleared (d .effect)) u). k .0)
-      (λ (c : Covers t (cleared (d .effect)) u). absurd (omega (arith, (rw clean at (c 0 (ok .spaces .pages u l))) .1))) (before u l n)
+  -- a place outside X after it that was not cleared agreed before
+  before : (p : ℕ) → Outside X t (p / 4096) → cleared (d .effect) (p / 4096) ≡ false → getD m₁ p 0 ≡ getD m₂ p 0
+  before p out clean = agree p (outside-before X s (length b₁) d law (p / 4096) out clean)
 
   -- R says that the call reaches a space of X: what it touches is the one space that it reaches
   abbrev Touched : ℕ → ℕ → Type 0
@@ -60,32 +43,34 @@ module _ (X : ℕ → Bool) (s : State) (d : Decision) (ok : Sound (after s d)) 
 
   module _ (R : Type 0) (reach : (u a : ℕ) → Touched u a → X (spaceAt (t .spaces) u .id) ≡ true → R)
       (only : (u a : ℕ) → Touched u a → R → X (spaceAt (t .spaces) u .id) ≡ true) (same : (R → ⊥) → b₁ ≡ b₂) where
+    -- a store into X leaves every place outside X; any other stores the same bytes
+    store-bytes : (v a : ℕ) → d .effect ≡ store v a → Inside t v a (length b₁) → EqualOutside X t (put (placeOf (layout t) v) a b₁ m₁) (put (placeOf (layout t) v) a b₂ m₂)
+    store-bytes v a e i p out = ⊎-elim within beside (true-or-false (X (spaceAt (t .spaces) v .id)))
+      where
+        old : getD m₁ p 0 ≡ getD m₂ p 0
+        old = before p out (ap (λ f. cleared f (p / 4096)) e)
+
+        away : X (spaceAt (t .spaces) v .id) ≡ true → (k : ℕ) → k < a + length b₁ → p ≢ placeOf (layout t) v k
+        away x k h q = out v (i .live) x (rw q (place-has (t .spaces) (layout t) v k (omega (arith, i .fits))))
+
+        within : X (spaceAt (t .spaces) v .id) ≡ true → getD (put (placeOf (layout t) v) a b₁ m₁) p 0 ≡ getD (put (placeOf (layout t) v) a b₂ m₂) p 0
+        within x =
+            put-off (placeOf (layout t) v) a b₁ m₁ p (λ k _ h. away x k h)
+            ∙ old
+            ∙ sym (put-off (placeOf (layout t) v) a b₂ m₂ p (λ k _ h. away x k (rw long h)))
+
+        beside : X (spaceAt (t .spaces) v .id) ≡ false → getD (put (placeOf (layout t) v) a b₁ m₁) p 0 ≡ getD (put (placeOf (layout t) v) a b₂ m₂) p 0
+        beside n =
+            put-agree (placeOf (layout t) v) a b₁ m₁ m₂ p room old
+            ∙ ap (λ b. getD (put (placeOf (layout t) v) a b m₂) p 0) (same (λ r. true-false (only v a (inl e) r) n))
+
     effect-bytes : (e : Effect) → d .effect ≡ e → EffectInside t (length b₁) e → EqualOutside X t (scratchAfter t e m₁ b₁) (scratchAfter t e m₂ b₂)
     unfolding scratchAfter
-    effect-bytes none e i u l n = not-cleared (ap cleared e) u l n
-    effect-bytes (fetch v a) e i u l n = not-cleared (ap cleared e) u l n
-    effect-bytes (clear fs) e i u l n = rw (← ap cleared e) (⊎-elim kept own (before u l n))
-      where
-        kept : (bytesOf t u m₁ ≡ bytesOf t u m₂) × Spares t (cleared (d .effect)) u → bytesOf t u (clearFrames (cleared (d .effect)) m₁) ≡ bytesOf t u (clearFrames (cleared (d .effect)) m₂)
-        kept k = clear-spared t ok (cleared (d .effect)) m₁ u (k .1) ∙ k .0 ∙ sym (clear-spared t ok (cleared (d .effect)) m₂ u (k .1))
-
-        own : Covers t (cleared (d .effect)) u → bytesOf t u (clearFrames (cleared (d .effect)) m₁) ≡ bytesOf t u (clearFrames (cleared (d .effect)) m₂)
-        own k = clear-covered t ok (cleared (d .effect)) m₁ u k ∙ sym (clear-covered t ok (cleared (d .effect)) m₂ u k)
-    effect-bytes (store v a) e i u l n = go (ℕ-discrete u v)
-      where
-        old : bytesOf t u m₁ ≡ bytesOf t u m₂
-        old = not-cleared (ap cleared e) u l n
-
-        i₂ : Inside t v a (length b₂)
-        i₂ = rw long at i
-
-        go : Dec (u ≡ v) → bytesOf t u (put (placeOf (layout t) v) a b₁ m₁) ≡ bytesOf t u (put (placeOf (layout t) v) a b₂ m₂)
-        go (yes q) =
-            rw q
-            (store-own t ok v a b₁ m₁ i room₁
-            ∙ ap₂ (λ x b. over x a b) (rw q at old) (same (λ r. true-false (only v a (inl e) r) (rw q at n)))
-            ∙ sym (store-own t ok v a b₂ m₂ i₂ room₂))
-        go (no q) = store-other t ok v a b₁ m₁ i u l q ∙ old ∙ sym (store-other t ok v a b₂ m₂ i₂ u l q)
+    effect-bytes none e i p out = before p out (ap (λ f. cleared f (p / 4096)) e)
+    effect-bytes (fetch v a) e i p out = before p out (ap (λ f. cleared f (p / 4096)) e)
+    effect-bytes (clear fs) e i p out =
+        clears-at fs m₁ p ∙ choose-eq (fs (p / 4096)) (λ _. refl) (λ n. before p out (ap (λ f. cleared f (p / 4096)) e ∙ n)) ∙ sym (clears-at fs m₂ p)
+    effect-bytes (store v a) e i p out = store-bytes v a e i p out
 
     -- the lent buffer, unless the call fetches from X
     effect-buffer : (e : Effect) → d .effect ≡ e → EffectInside t (length b₁) e → (R → ⊥) → bufferAfter t e m₁ b₁ ≡ bufferAfter t e m₂ b₂
@@ -95,9 +80,9 @@ module _ (X : ℕ → Bool) (s : State) (d : Decision) (ok : Sound (after s d)) 
     effect-buffer (store v a) e i away = same away
     effect-buffer (fetch v a) e i away =
         let n = not-so (X (spaceAt (t .spaces) v .id)) (λ x. away (reach v a (inr e) x)) in
-        let q = not-cleared (ap cleared e) v (i .live) n in
         rw (← long)
-        (fetch-bytes t ok v a (length b₁) m₁ i ∙ ap (λ x. part x a (length b₁)) q ∙ sym (fetch-bytes t ok v a (length b₁) m₂ i))
+        (get-agree (placeOf (layout t) v) a (length b₁) m₁ m₂ (λ k _ h.
+        before _ (own-outside X t ok v (i .live) n k (omega (arith, i .fits))) (ap (λ f. cleared f (placeOf (layout t) v k / 4096)) e)))
 
 -- One call.
 module _ (X : ℕ → Bool) (m₁ m₂ : Machine) (ready : Ready m₁) (alike : Alike X m₁ m₂) (i j : Issue) (may : MayDiffer X m₁ i j) where
@@ -125,8 +110,6 @@ module _ (X : ℕ → Bool) (m₁ m₂ : Machine) (ready : Ready m₁) (alike : 
   unfolding step
   same-call =
       let law = lawful (m₁ .tables) (length (m₁ .scratch)) (i .call) (length (i .buffer)) (ready .sound) in
-      let room₁ : length (m₁ .scratch) ≡ after (m₁ .tables) d .frames * 4096 = ready .room ∙ ap (λ f. f * 4096) (sym (law .frames)) in
-      let room₂ : length (m₂ .scratch) ≡ after (m₁ .tables) d .frames * 4096 = sym (alike .room) ∙ room₁ in
       record {
         number = ap (λ (x : Decision). number (x .answer)) same-decision;
         value = ap (λ (x : Decision). value (x .answer)) same-decision;
@@ -134,9 +117,9 @@ module _ (X : ℕ → Bool) (m₁ m₂ : Machine) (ready : Ready m₁) (alike : 
         alike = record {
           tables = ap₂ (λ (x : State) (y : Decision). after x y) (alike .tables) same-decision;
           room = length-scratchAfter _ (decision m₁ i .effect) (m₁ .scratch) (i .buffer) ∙ alike .room ∙ sym (length-scratchAfter _ (decision m₂ j .effect) (m₂ .scratch) (j .buffer));
-          bytes = rw (← same-decision, ← alike .tables) (effect-bytes X (m₁ .tables) d (after-ready .sound) (i .buffer) (j .buffer) (m₁ .scratch) (m₂ .scratch) law room₁ room₂ (may .lengths) (alike .bytes) (ReachesIn X m₁ i) reach only (may .same) (d .effect) refl (law .inside));
+          bytes = rw (← same-decision, ← alike .tables) (effect-bytes X (m₁ .tables) d (after-ready .sound) (i .buffer) (j .buffer) (m₁ .scratch) (m₂ .scratch) law (alike .room) (may .lengths) (alike .bytes) (ReachesIn X m₁ i) reach only (may .same) (d .effect) refl (law .inside));
         };
-        buffer = λ away. rw (← same-decision, ← alike .tables) (effect-buffer X (m₁ .tables) d (after-ready .sound) (i .buffer) (j .buffer) (m₁ .scratch) (m₂ .scratch) law room₁ room₂ (may .lengths) (alike .bytes) (ReachesIn X m₁ i) reach only (may .same) (d .effect) refl (law .inside) away);
+        buffer = λ away. rw (← same-decision, ← alike .tables) (effect-buffer X (m₁ .tables) d (after-ready .sound) (i .buffer) (j .buffer) (m₁ .scratch) (m₂ .scratch) law (alike .room) (may .lengths) (alike .bytes) (ReachesIn X m₁ i) reach only (may .same) (d .effect) refl (law .inside) away);
       }
 
 -- a larger set leaves less to agree
@@ -144,7 +127,7 @@ alike-grown : (X Y : ℕ → Bool) (m₁ m₂ : Machine) → Grows X Y → Alike
 alike-grown X Y m₁ m₂ g a = record {
   tables = a .tables;
   room = a .room;
-  bytes = λ u l n. a .bytes u l (not-so (X (spaceAt (m₁ .tables .spaces) u .id)) (λ x. true-false (g (spaceAt (m₁ .tables .spaces) u .id) x) n));
+  bytes = λ p out. a .bytes p (λ u l x. out u l (g (spaceAt (m₁ .tables .spaces) u .id) x));
 }
 
 -- Every call of the list.

@@ -14,5 +14,7 @@ pub mod Agrees
 -- Records with and without a ground
 pub mod Records
 pub mod Kept
+-- Free frames: "zero once freed" (paper 02, M-101)
+pub mod Freed
 -- What a guest is handed
 pub mod Handed

@@ -1,8 +1,8 @@
 -- Demand 3's first half, "one claim about the whole list": two runs of it, which differ in the bytes of one space and in the data
 -- of stores that reach it. First the general claim, for a set of changed spaces that may grow from call to call; then the paper's
 -- own, for one space.
-use Prim.Native.Nat.{ℕ, _<_}
-use mathlib.Core.Bool.{Bool, true, false}
+use Prim.Native.Nat.{ℕ, _/_, _<_}
+use mathlib.Core.Bool.{Bool, true}
 use mathlib.Core.List.{List, [], _∷_}
 use mathlib.Core.Logic.{_≢_}
 use mathlib.Core.Path.{_≡_}
@@ -10,17 +10,22 @@ use lib.ListN.{length, getD}
 use Rattle.model.specs.declared.State.{State}
 use Rattle.model.specs.Answers.{number, value}
 use Rattle.model.specs.Classes.{isStore}
-use Rattle.model.specs.Frames.{layout, placeOf, sizeOf, bytesOf}
-use Rattle.model.specs.Sound.{Live}
+use Rattle.model.specs.Frames.{layout, placeOf, sizeOf, bytesOf, frameBytes}
+use Rattle.model.specs.Sizes.{frameSize}
+use Rattle.model.specs.Sound.{Live, HasFrame, Free}
 use Rattle.model.specs.Step.{Machine, Ready, Issue, Outcome, step, run}
 use Rattle.model.specs.Tables.{spaceAt}
 use Rattle.isolation.specs.Reaches.{Reaches, ReachesIn}
 
--- every live space outside the set X holds equal bytes
-abbrev pub EqualOutside : (ℕ → Bool) → State → (scratch₁ scratch₂ : List ℕ) → Type 0
-EqualOutside X s m₁ m₂ = (u : ℕ) → Live (s .spaces) u → X (spaceAt (s .spaces) u .id) ≡ false → bytesOf s u m₁ ≡ bytesOf s u m₂
+-- no live space of the set X has the frame f: it is free, or one of another live space
+abbrev pub Outside : (ℕ → Bool) → State → (frame : ℕ) → Type 0
+Outside X s f = (u : ℕ) → Live (s .spaces) u → X (spaceAt (s .spaces) u .id) ≡ true → HasFrame (layout s) (s .spaces) u f → ⊥
 
--- two machines that differ in the bytes of changed spaces alone, and in free frames
+-- scratch is equal at every place outside the live spaces of X, in free frames too
+abbrev pub EqualOutside : (ℕ → Bool) → State → (scratch₁ scratch₂ : List ℕ) → Type 0
+EqualOutside X s m₁ m₂ = (p : ℕ) → Outside X s (p / frameSize) → getD m₁ p 0 ≡ getD m₂ p 0
+
+-- two machines that differ in the bytes of live changed spaces alone
 pub record Alike (X : ℕ → Bool) (m₁ m₂ : Machine) : Type 0 where
   pub tables : m₁ .tables ≡ m₂ .tables
   pub room : length (m₁ .scratch) ≡ length (m₂ .scratch)
@@ -90,14 +95,20 @@ StoresVaried x m (i ∷ is) (j ∷ js) = StoreMayDiffer x m i j × StoresVaried 
 abbrev pub EqualBut : (id : ℕ) → State → (scratch₁ scratch₂ : List ℕ) → Type 0
 EqualBut x s m₁ m₂ = (u : ℕ) → Live (s .spaces) u → spaceAt (s .spaces) u .id ≢ x → bytesOf s u m₁ ≡ bytesOf s u m₂
 
--- Two outcomes of one call: the same answer, equal tables, equal bytes in each live space but that one, and an equal buffer
--- unless the call reaches that space. `m` and `i` are the first run's machine before the call, and its call.
+-- Paper 02, M-101: "Demand 3 then also gives equal bytes in the former frames of the space while they stay free." Every frame that
+-- no live space has holds equal bytes, whichever space had it.
+abbrev pub EqualFree : State → (scratch₁ scratch₂ : List ℕ) → Type 0
+EqualFree s m₁ m₂ = (f : ℕ) → Free (layout s) (s .spaces) f → frameBytes f m₁ ≡ frameBytes f m₂
+
+-- Two outcomes of one call: the same answer, equal tables, equal bytes in each live space but that one and in each free frame, and
+-- an equal buffer unless the call reaches that space. `m` and `i` are the first run's machine before the call, and its call.
 pub record SameOutside (id : ℕ) (m : Machine) (i : Issue) (o₁ o₂ : Outcome) : Type 0 where
   pub number : number (o₁ .answer) ≡ number (o₂ .answer)
   pub value : value (o₁ .answer) ≡ value (o₂ .answer)
   pub answer : o₁ .answer ≡ o₂ .answer
   pub tables : o₁ .machine .tables ≡ o₂ .machine .tables
   pub bytes : EqualBut id (o₁ .machine .tables) (o₁ .machine .scratch) (o₂ .machine .scratch)
+  pub free : EqualFree (o₁ .machine .tables) (o₁ .machine .scratch) (o₂ .machine .scratch)
   pub buffer : (Reaches m i id → ⊥) → o₁ .buffer ≡ o₂ .buffer
 
 -- at every call of the list, by the outcomes of its calls in both runs

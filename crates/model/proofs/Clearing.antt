@@ -1,12 +1,17 @@
--- Frames filled with zeros. Assumes nothing.
-use Prim.Native.Nat.{ℕ, _/_}
+-- Frames filled with zeros, and the bytes of one. Assumes nothing.
+use Prim.Native.Nat.{ℕ, _+_, _*_, _/_, _≤_, _<_}
 use mathlib.Core.Bool.{Bool, true, false}
 use mathlib.Core.List.{List}
-use mathlib.Core.Path.{_≡_, _∙_}
-use lib.ListN.{length, getD}
+use mathlib.Core.Path.{_≡_, sym, _∙_}
+use native.Mathlib.Omega.{arith}
+use lib.ListN.{length, getD, replicate, length-take, length-drop, length-replicate, getD-replicate}
+use lib.Seq.{ext-getD}
+use Rattle.lists.specs.Bytes.{part}
 use Rattle.lists.specs.Choice.{choose}
+use Rattle.lists.proofs.Bytes.{length-part, getD-part}
 use Rattle.lists.proofs.Choice.{choose-same, yes!, no! }
 use Rattle.lists.proofs.Maps.{length-mapPlaces, map-at}
+use Rattle.model.specs.Frames.{frameBytes}
 use Rattle.model.specs.Step.{clearFrames}
 
 module _ (fs : ℕ → Bool) (m : List ℕ) where
@@ -24,3 +29,26 @@ module _ (fs : ℕ → Bool) (m : List ℕ) where
 
   pub clears-off : (p : ℕ) → fs (p / 4096) ≡ false → getD (clearFrames fs m) p 0 ≡ getD m p 0
   clears-off p e = clears-at p ∙ no! _ _ e
+
+-- the bytes of one frame
+module _ (f : ℕ) where
+  short : (m : List ℕ) → length (part m (f * 4096) 4096) ≤ 4096
+  unfolding part
+  short m = simp (length-take, length-drop) (omega arith)
+
+  pub frame-agree : (m₁ m₂ : List ℕ) → length m₁ ≡ length m₂ → ((p : ℕ) → p / 4096 ≡ f → getD m₁ p 0 ≡ getD m₂ p 0) → frameBytes f m₁ ≡ frameBytes f m₂
+  unfolding frameBytes part
+  frame-agree m₁ m₂ room h =
+      ext-getD 0 _ _ long (λ k l.
+      let b : k < 4096 = omega (arith, short m₁) in
+      getD-part m₁ (f * 4096) 4096 k 0 b ∙ h (f * 4096 + k) (omega arith) ∙ sym (getD-part m₂ (f * 4096) 4096 k 0 b))
+    where
+      long : length (part m₁ (f * 4096) 4096) ≡ length (part m₂ (f * 4096) 4096)
+      long = simp (length-take, length-drop, room)
+
+  pub frame-zeroed : (m : List ℕ) → f * 4096 + 4096 ≤ length m → ((p : ℕ) → p / 4096 ≡ f → getD m p 0 ≡ 0) → frameBytes f m ≡ replicate 4096 0
+  unfolding frameBytes
+  frame-zeroed m room h =
+      ext-getD 0 _ _ (length-part m (f * 4096) 4096 room ∙ sym (length-replicate {A = ℕ} 4096 0)) (λ k l.
+      let b : k < 4096 = omega (arith, short m) in
+      getD-part m (f * 4096) 4096 k 0 b ∙ h (f * 4096 + k) (omega arith) ∙ sym (getD-replicate 4096 k 0 0 b))

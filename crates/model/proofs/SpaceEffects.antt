@@ -296,7 +296,7 @@ module _ (s : State) (m : ℕ) (c : Caller) (n : ℕ) where
       let u = slotOf (s .spaces) i in
       let space = is-space s i (p .owning .slot) in
       let d-goes : (f : ℕ) → Decides (freed (layout s) (s .spaces) (eqb u) f) (HasFrame (layout s) (s .spaces) u f) = λ f.
-          d-map (λ (v, b, (e, h)). rw (eqb-true u v e) h) (λ h. (u, p .owning .slot, (eq-eqb u u refl, h))) (d-freed (layout s) (s .spaces) (eqb u) f) in
+      d-map (λ (v, b, (e, h)). rw (eqb-true u v e) h) (λ h. (u, p .owning .slot, (eq-eqb u u refl, h))) (d-freed (layout s) (s .spaces) (eqb u) f) in
       rw (p .is) (record {
         slot = u;
         space = space;
@@ -343,8 +343,8 @@ module _ (s : State) (m : ℕ) (c : Caller) (n : ℕ) where
       let es = withdrawn gone closed s .entries in
       let d-data : (u : ℕ) → Decides (gone u) (OwnedData s g u) = λ u. d-both (d-owned s g u) (d-not (d-eq _ baseName)) in
       let d-goes : (f : ℕ) → Decides (freed (layout s) (s .spaces) gone f) (DataFrame s g f) = λ f.
-          d-map (λ (u, b, (e, h)). (u, (d-data u .to e, h))) (λ (u, (o, h)). (u, live-slot (s .spaces) u 32 (ok s m c n Reset done .spaces .len) (o .0 .live), (d-data u .of o, h)))
-          (d-freed (layout s) (s .spaces) gone f) in
+      d-map (λ (u, b, (e, h)). (u, (d-data u .to e, h))) (λ (u, (o, h)). (u, live-slot (s .spaces) u 32 (ok s m c n Reset done .spaces .len) (o .0 .live), (d-data u .of o, h)))
+      (d-freed (layout s) (s .spaces) gone f) in
       rw (p .is) (record {
         unused = λ k j. ap (λ (x : Entry). x .standing) (released-own es g k i j) ∙ released-unused (entryAt es g k);
         released = λ k j. released-own es g k i j ∙ ap released (withdrawn-revoked s gone closed g k i j) ∙ released-revoked _ (entryAt (s .entries) g k);

@@ -3,7 +3,7 @@ use Prim.Native.Nat.{ℕ, _+_, _*_, _/_, _%_}
 use mathlib.Core.Bool.{Bool, not}
 use mathlib.Core.List.{List}
 use lib.Dec.{eqb}
-use Rattle.lists.specs.Bytes.{get}
+use Rattle.lists.specs.Bytes.{get, part}
 use Rattle.lists.specs.Choice.{implies}
 use Rattle.lists.specs.Places.{every, some}
 use Rattle.model.specs.declared.Space.{Space}
@@ -32,6 +32,10 @@ sizeOf ss u = spaceAt ss u .pages * frameSize
 -- the bytes of the space in slot u, from address 0 to its last
 unfoldable pub bytesOf : State → (slot : ℕ) → (scratch : List ℕ) → List ℕ
 bytesOf s u m = get (placeOf (layout s) u) 0 (sizeOf (s .spaces) u) m
+
+-- the bytes of a frame
+unfoldable pub frameBytes : (frame : ℕ) → (scratch : List ℕ) → List ℕ
+frameBytes f m = part m (f * frameSize) frameSize
 
 -- the space in slot u has the frame f
 unfoldable pub hasFrame : Layout → List Space → (slot frame : ℕ) → Bool

@@ -1,0 +1,41 @@
+-- Paper 02, M-101: of free frames, "zero once freed". Over whole lists of calls: a frame that a live space had and that no live space
+-- has any more is filled with zeros. Nothing is said of frames that no space ever had, since a first scratch area may hold anything.
+use Prim.Native.Nat.{ℕ}
+use mathlib.Core.List.{List}
+use mathlib.Core.Path.{_≡_}
+use lib.ListN.{replicate}
+use Rattle.model.specs.declared.State.{State}
+use Rattle.model.specs.Frames.{layout, frameBytes}
+use Rattle.model.specs.Sizes.{frameSize}
+use Rattle.model.specs.Sound.{Live, HasFrame, Free}
+use Rattle.model.specs.Step.{Machine, Ready, Issue, Outcome, afterRun}
+use Rattle.isolation.specs.Kept.{Kept, leftBy}
+
+-- a live space has the frame f
+abbrev pub InUse : State → (frame : ℕ) → Type 0
+InUse s f = (u : ℕ) × (Live (s .spaces) u × HasFrame (layout s) (s .spaces) u f)
+
+-- the frame f holds zeros, all its bytes
+abbrev pub Zeroed : (frame : ℕ) → (scratch : List ℕ) → Type 0
+Zeroed f m = frameBytes f m ≡ replicate frameSize 0
+
+-- `m` is the machine before call i of any list, `calls` are its calls i to j
+abbrev pub ZeroOnceFreed : Type 0
+ZeroOnceFreed =
+    (m : Machine) (calls : List Issue) (f : ℕ)
+    → Ready m
+    → InUse (m .tables) f
+    → Free (layout (afterRun m calls .tables)) (afterRun m calls .tables .spaces) f
+    → Zeroed f (afterRun m calls .scratch)
+
+-- The same of calls through the public face: `earlier` are the calls before call i, `later` the calls i to j, and `os` and `ps` what
+-- they gave back and left.
+abbrev pub ZeroOnceFreedKept : Type 0
+ZeroOnceFreedKept =
+    (m : Machine) (earlier later : List Issue) (os ps : List Outcome) (f : ℕ)
+    → Ready m
+    → Kept m earlier os
+    → Kept (leftBy m os) later ps
+    → InUse (leftBy m os .tables) f
+    → Free (layout (leftBy (leftBy m os) ps .tables)) (leftBy (leftBy m os) ps .tables .spaces) f
+    → Zeroed f (leftBy (leftBy m os) ps .scratch)
