@@ -7,18 +7,27 @@ use mathlib.Core.Path.{_≡_, refl, sym, ap, ap₂, _∙_}
 use native.Mathlib.Omega.{arith}
 use lib.ListN.{length, getD, set, length-set, length-replicate, getD-replicate}
 use lib.Seq.{getD-set-same, getD-set-other}
+use lib.Dec.{eqb}
 use Rattle.lists.specs.Bytes.{put, get}
+use Rattle.model.specs.declared.Operation.the-variants.{Destroy}
 use Rattle.model.specs.declared.Right.the-variants.{Write}
+use Rattle.model.specs.declared.Space.{Space}
 use Rattle.model.specs.Answers.{number}
-use Rattle.model.specs.Sound.{Live, Sound}
-use Rattle.model.specs.Step.{Machine, Ready, Issue, Outcome, step, run, clearFrame, clearFrames, scratchAfter, bufferAfter}
-use Rattle.model.proofs.Clearing.{clear-on}
-use Rattle.cases.specs.Instance.{start, holding, zeros, altered, look, change, others, calls, first, second, Result, results, listed}
+use Rattle.model.specs.Changes.{freed}
+use Rattle.model.specs.Frames.{layout, frameOf, hasFrame, frameFree}
+use Rattle.model.specs.Sound.{Live, Free, Sound}
+use Rattle.model.specs.Step.{Machine, Ready, Issue, Outcome, step, run, afterRun, clearFrames, scratchAfter, bufferAfter}
+use Rattle.model.proofs.Clearing.{clears-on}
+use Rattle.model.proofs.Runs.{d-frame}
+use Rattle.cases.specs.Instance.{start, own, holding, zeros, altered, look, change, others, calls, first, second, Result, results, listed}
+use Rattle.isolation.specs.Freed.{Zeroed}
 use Rattle.isolation.specs.Reaches.{Reaches}
+use Rattle.isolation.specs.Records.{issue}
 use Rattle.isolation.specs.TwoRuns.{OutsideSpace, StoresVaried, AllSameOutside}
 use Rattle.cases.proofs.Decisions.{decisions, tests}
 use Rattle.cases.proofs.InstanceRun.{runWith, step-with, run-with}
 use Rattle.cases.proofs.Starts.{tablesTest, sound-blank}
+use Rattle.isolation.proofs.Freed.{zero-once-freed}
 use Rattle.isolation.proofs.Isolation.{isolation}
 
 pub sound-start : Sound start
@@ -30,7 +39,8 @@ ready-with : (z : List ℕ) → length z ≡ 16384 → Ready (holding z)
 unfolding start
 ready-with z room = record { sound = sound-start; room = room }
 
--- The two bytes at the start of frame 2; scratch after the store, and what it and the clearing leave there.
+-- The two bytes at the start of frame 2; scratch after the store, and after it when the space was destroyed and another made; and
+-- what these leave there.
 abbrev pair : List ℕ → List ℕ
 pair z = getD z 8192 0 ∷ getD z 8193 0 ∷ []
 
@@ -43,18 +53,26 @@ pair-stored z a b room =
     (getD-set-other (set z 8192 a) 8193 8192 b 0 (omega arith) ∙ getD-set-same z 8192 a 0 (omega arith))
     (getD-set-same (set z 8192 a) 8193 b 0 (omega (arith, length-set z 8192 a)))
 
-pair-cleared : (z : List ℕ) → pair (clearFrame 2 z) ≡ 0 ∷ 0 ∷ []
-pair-cleared z = ap₂ (λ (x y : ℕ). x ∷ y ∷ []) (clear-on 2 z 8192 refl) (clear-on 2 z 8193 refl)
+-- the slots as guest 2's new space leaves them, its frames, and those of the space that went
+abbrev made : List Space
+made = set (start .spaces) 2 own
+
+abbrev remade : List ℕ → List ℕ
+remade z = clearFrames (hasFrame made made 2) (clearFrames (freed (start .spaces) (start .spaces) (eqb 2)) z)
+
+pair-remade : (z : List ℕ) → pair (remade z) ≡ 0 ∷ 0 ∷ []
+unfolding start decisions
+pair-remade z = ap₂ (λ (x y : ℕ). x ∷ y ∷ []) (clears-on _ _ 8192 refl) (clears-on _ _ 8193 refl)
 
 -- what is computed of a run, and what follows
 abbrev Computed : (scratch : List ℕ) (a b : ℕ) → Type 0
-Computed z a b = results (runWith (holding z) (calls (a ∷ b ∷ []))) ≡ listed (pair z) (a ∷ b ∷ []) (pair (stored z a b)) (pair (clearFrame 2 (stored z a b)))
+Computed z a b = results (runWith (holding z) (calls (a ∷ b ∷ []))) ≡ listed (pair z) (a ∷ b ∷ []) (pair (stored z a b)) (pair (remade (stored z a b)))
 
 returns : (z : List ℕ) (a b : ℕ) → length z ≡ 16384 → Computed z a b → results (run (holding z) (calls (a ∷ b ∷ []))) ≡ listed (pair z) (a ∷ b ∷ []) (a ∷ b ∷ []) (0 ∷ 0 ∷ [])
 returns z a b room c =
     ap results (run-with (calls (a ∷ b ∷ [])) (holding z) (ready-with z room))
     ∙ c
-    ∙ ap₂ (listed (pair z) (a ∷ b ∷ [])) (pair-stored z a b room) (pair-cleared (stored z a b))
+    ∙ ap₂ (listed (pair z) (a ∷ b ∷ [])) (pair-stored z a b room) (pair-remade (stored z a b))
 
 -- The first run.
 pub long : length zeros ≡ 16384
@@ -62,7 +80,7 @@ unfolding zeros
 long = length-replicate {A = ℕ} 16384 0
 
 computed-first : Computed zeros 1 2
-unfolding start decisions results runWith scratchAfter bufferAfter put get clearFrames
+unfolding start decisions results runWith scratchAfter bufferAfter put get
 computed-first = refl
 
 held-first : pair zeros ≡ 0 ∷ 0 ∷ []
@@ -78,7 +96,7 @@ unfolding altered
 long-altered = length-set zeros 8193 7 ∙ long
 
 computed-second : Computed altered 3 4
-unfolding start decisions results runWith scratchAfter bufferAfter put get clearFrames
+unfolding start decisions results runWith scratchAfter bufferAfter put get
 computed-second = refl
 
 held-second : pair altered ≡ 0 ∷ 7 ∷ []
@@ -157,3 +175,20 @@ differ e =
     bufferOf : List Result → List ℕ
     bufferOf [] = []
     bufferOf (r ∷ rs) = r .buffer
+
+-- Frame 2, of which space 3 holds a 7, is zero once guest 1 has destroyed it.
+abbrev destroying : List Issue
+destroying = issue 1 (Destroy 3) [] ∷ []
+
+abbrev destroyed : Machine
+destroyed = afterRun (holding altered) destroying
+
+free-then : Free (layout (destroyed .tables)) (destroyed .tables .spaces) 2
+unfolding start decisions afterRun
+free-then =
+    d-frame (layout (destroyed .tables)) (destroyed .tables .spaces) 2 .to
+    (ap (λ (o : Outcome). frameFree (layout (o .machine .tables)) (o .machine .tables .spaces) 2) (step-with (holding altered) (issue 1 (Destroy 3) []) (ready-with altered long-altered)))
+
+pub freed-frame : Zeroed 2 (destroyed .scratch)
+unfolding start frameOf
+freed-frame = zero-once-freed (holding altered) destroying 2 (ready-with altered long-altered) (2, (live-shared, (0, omega arith, refl))) free-then

@@ -1,6 +1,6 @@
 -- What two runs have in common over the whole list, from `AllSameOutside` alone and not from how it was proved. Each law rests on
--- its own part of the claim, so that none can be left out of it: `answer` and `buffer`, `number` and `value`, `tables`, `bytes`, and
--- an outcome for each call. Assumes nothing.
+-- its own part of the claim, so that none can be left out of it: `answer` and `buffer`, `number` and `value`, `tables`, `bytes`, `free`,
+-- and an outcome for each call. Assumes nothing.
 use Prim.Native.Nat.{ℕ, suc}
 use mathlib.Core.List.{List, [], _∷_}
 use mathlib.Core.Path.{_≡_, refl, sym, ap, ap₂, _∙_}
@@ -12,7 +12,7 @@ use Rattle.model.specs.declared.Call.{Call}
 use Rattle.model.specs.Step.{Machine, Issue, Outcome, step, run, afterRun}
 use Rattle.isolation.specs.Handed.{Handed, handed, handedTo, Away}
 use Rattle.isolation.specs.History.{Event, eventOf, recorded}
-use Rattle.isolation.specs.TwoRuns.{EqualBut, StoresVaried, AllSameOutside}
+use Rattle.isolation.specs.TwoRuns.{EqualBut, EqualFree, StoresVaried, AllSameOutside}
 
 -- one call more
 handed-more : (g : ℕ) (i j : Issue) (is js : List Issue) (o p : Outcome) (os ps : List Outcome) → i .call ≡ j .call → (i .call .caller .guest ≡ g → handed o ≡ handed p)
@@ -65,6 +65,15 @@ module _ (x : ℕ) where
   same-bytes [] (j ∷ js) m n v a e = absurd v
   same-bytes (i ∷ is) [] m n v a e = absurd v
   same-bytes (i ∷ is) (j ∷ js) m n v a e = same-bytes is js (step m i .machine) (step n j .machine) (v .1) (a .1) (a .0 .bytes)
+
+  -- and so do runs that begin with equal bytes in every free frame
+  pub same-free : (is js : List Issue) (m n : Machine) → StoresVaried x m is js → AllSameOutside x m is (run m is) (run n js) → EqualFree (m .tables) (m .scratch) (n .scratch)
+      → EqualFree (afterRun m is .tables) (afterRun m is .scratch) (afterRun n js .scratch)
+  unfolding StoresVaried AllSameOutside run afterRun
+  same-free [] [] m n v a e = e
+  same-free [] (j ∷ js) m n v a e = absurd v
+  same-free (i ∷ is) [] m n v a e = absurd v
+  same-free (i ∷ is) (j ∷ js) m n v a e = same-free is js (step m i .machine) (step n j .machine) (v .1) (a .1) (a .0 .free)
 
   -- each run has one outcome for each call
   pub same-count : (is : List Issue) (os ps : List Outcome) (m : Machine) → AllSameOutside x m is os ps → (length os ≡ length is) × (length ps ≡ length is)

@@ -1,14 +1,15 @@
--- Paper 02, M-101: of free frames, "zero once freed". Over whole lists of calls: a frame that a live space had and that no live space
--- has any more is filled with zeros. Nothing is said of frames that no space ever had, since a first scratch area may hold anything.
+-- Paper 02, M-101: of free frames, "zero once freed", in place of paper 01's "Frames keep old bytes while free". Over whole lists of
+-- calls: a frame that a live space had and that no live space has any more is filled with zeros; and a frame keeps its bytes as long
+-- as it is free, those of a frame that no space ever had too, since a first scratch area may hold anything.
 use Prim.Native.Nat.{ℕ}
-use mathlib.Core.List.{List}
+use mathlib.Core.List.{List, [], _∷_}
 use mathlib.Core.Path.{_≡_}
 use lib.ListN.{replicate}
 use Rattle.model.specs.declared.State.{State}
 use Rattle.model.specs.Frames.{layout, frameBytes}
 use Rattle.model.specs.Sizes.{frameSize}
 use Rattle.model.specs.Sound.{Live, HasFrame, Free}
-use Rattle.model.specs.Step.{Machine, Ready, Issue, Outcome, afterRun}
+use Rattle.model.specs.Step.{Machine, Ready, Issue, Outcome, step, afterRun}
 use Rattle.isolation.specs.Kept.{Kept, leftBy}
 
 -- a live space has the frame f
@@ -28,7 +29,15 @@ ZeroOnceFreed =
     → Free (layout (afterRun m calls .tables)) (afterRun m calls .tables .spaces) f
     → Zeroed f (afterRun m calls .scratch)
 
--- The same of calls through the public face: `earlier` are the calls before call i, `later` the calls i to j, and `os` and `ps` what
+-- the frame f is free in a machine, and after every call of a list
+unfoldable pub FreeThrough : (frame : ℕ) → Machine → List Issue → Type 0
+FreeThrough f m [] = Free (layout (m .tables)) (m .tables .spaces) f
+FreeThrough f m (i ∷ is) = Free (layout (m .tables)) (m .tables .spaces) f × FreeThrough f (step m i .machine) is
+
+abbrev pub KeptWhileFree : Type 0
+KeptWhileFree = (m : Machine) (calls : List Issue) (f : ℕ) → Ready m → FreeThrough f m calls → frameBytes f (afterRun m calls .scratch) ≡ frameBytes f (m .scratch)
+
+-- The first of these, of calls through the public face: `earlier` are the calls before call i, `later` the calls i to j, and `os` and `ps` what
 -- they gave back and left.
 abbrev pub ZeroOnceFreedKept : Type 0
 ZeroOnceFreedKept =

@@ -52,6 +52,7 @@ lawful-still s n d e f still = record {
   frames = f;
   kept = stays-spared s (after s d) (cleared (d .effect)) (λ k. ap (λ x. cleared x k) still) e;
   left = λ u l. inl (stays s (after s d) (cleared (d .effect)) (λ k. ap (λ x. cleared x k) still) e u l);
+  idle = λ k _ _. ap (λ x. cleared x k) still;
   inside = rw still tt;
 }
 
@@ -103,7 +104,15 @@ module _ (s : State) (c : Change) (g name pages n : ℕ) (d : Decision) (ok : So
       (p, rw (made-other u (other u l)) at b, sym (made-frame u p (other u l))))
 
   lawful-made : Lawful s n d
-  lawful-made = rw (m .is) (record { frames = head; kept = λ u l. go u l (ℕ-discrete u slot); left = λ u l. inl (same-made u l (other u l)); inside = tt })
+  unfolding newSpace
+  lawful-made =
+      rw (m .is) (record {
+        frames = head;
+        kept = λ u l. go u l (ℕ-discrete u slot);
+        left = λ u l. inl (same-made u l (other u l));
+        idle = λ f _ free. not-so _ (λ y. free slot (m .slot) (rw made-new (ok .head .next-low)) (d-has (layout t) (t .spaces) slot f .to y));
+        inside = tt;
+      })
     where
       go : (u : ℕ) → Live (t .spaces) u → Dec (u ≡ slot) → (SameSpace s t u × Spares t frames u) ⊎ Covers t frames u
       go u l (yes e) = inr (rw e (covers-own t slot))
@@ -134,6 +143,9 @@ module _ (s : State) (c : Change) (gone closed : ℕ → Bool) (n : ℕ) (ok : S
     frames = head;
     kept = λ u l. let w = withdrawn-live s gone closed u (rw same at l) in inl (withdrawn-stays u (w .1) (w .0), stays-apart u (w .1) (w .0));
     left = λ u l. ⊎-elim (λ y. inr (gone-covered u l y)) (λ k. inl (withdrawn-stays u l k)) (true-or-false (gone u));
+    idle = λ f free _. not-so _ (λ y.
+        let (u, b, (_, (p, h, e))) = d-freed (layout s) (s .spaces) gone f .to y in
+        free u b (page-live s ok u p h) (p, h, e));
     inside = tt;
   }
     where
@@ -149,6 +161,7 @@ lawful-access s c r a n storing f d ok en within clean x =
       frames = refl;
       kept = stays-spared s s (cleared (f (x .slot))) (clean (x .slot)) refl;
       left = λ u l. inl (same-space s u l);
+      idle = λ k _ _. clean (x .slot) k;
       inside = within (x .slot) (record { live = reached-live s ok (c .guest) _ (x .slot) (x .right) en (x .reached); fits = x .inside });
     })
 
