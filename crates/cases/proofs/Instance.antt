@@ -15,7 +15,7 @@ use Rattle.model.specs.declared.Space.{Space}
 use Rattle.model.specs.Answers.{number}
 use Rattle.model.specs.Changes.{freed}
 use Rattle.model.specs.Frames.{layout, frameOf, hasFrame, frameFree}
-use Rattle.model.specs.Sound.{Live, Free, Sound}
+use Rattle.model.specs.Sound.{Live, FreeIn, Sound}
 use Rattle.model.specs.Step.{Machine, Ready, Issue, Outcome, step, run, afterRun, clearFrames, scratchAfter, bufferAfter}
 use Rattle.model.proofs.Clearing.{clears-on}
 use Rattle.model.proofs.Runs.{d-frame}
@@ -183,7 +183,7 @@ destroying = issue 1 (Destroy 3) [] ∷ []
 abbrev destroyed : Machine
 destroyed = afterRun (holding altered) destroying
 
-free-then : Free (layout (destroyed .tables)) (destroyed .tables .spaces) 2
+free-then : FreeIn (destroyed .tables) 2
 unfolding start decisions afterRun
 free-then =
     d-frame (layout (destroyed .tables)) (destroyed .tables .spaces) 2 .to

@@ -1,6 +1,5 @@
 -- A guest that asks about owner 0 is refused, and the place of the refused argument tells it nothing of the space that another
 -- guest stores into: what it is handed is the same in both runs. Assumes nothing.
-use Prim.Native.Nat.{ℕ}
 use mathlib.Core.List.{List, [], _∷_}
 use mathlib.Core.Path.{_≡_, refl, sym, ap, _∙_}
 use native.Mathlib.Omega.{arith}

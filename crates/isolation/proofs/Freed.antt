@@ -13,7 +13,7 @@ use Rattle.model.specs.declared.State.{State}
 use Rattle.model.specs.Decision.{Decision, after, Effect, none, clear, fetch, store}
 use Rattle.model.specs.Frames.{layout, placeOf}
 use Rattle.model.specs.Lawful.{cleared, EffectInside, Lawful}
-use Rattle.model.specs.Sound.{Free, Sound}
+use Rattle.model.specs.Sound.{FreeIn, Sound}
 use Rattle.model.specs.Step.{Machine, Ready, Issue, Outcome, decision, step, run, afterRun, scratchAfter}
 use Rattle.model.proofs.Addresses.{place-has}
 use Rattle.model.proofs.Clearing.{clears-at, frame-agree, frame-zeroed}
@@ -25,9 +25,6 @@ use Rattle.isolation.specs.Kept.{leftBy}
 use Rattle.isolation.proofs.Kept.{kept-run, left-run}
 use Rattle.isolation.proofs.Outside.{free-outside, outside-before, outside-free}
 use Rattle.isolation.proofs.RecordKept.{ready-run}
-
-abbrev FreeIn : State → (frame : ℕ) → Type 0
-FreeIn s f = Free (layout s) (s .spaces) f
 
 -- One decision on scratch m, and a place p whose frame is free after it.
 module _ (s : State) (d : Decision) (ok : Sound (after s d)) (b m : List ℕ) (law : Lawful s (length b) d) (p : ℕ) (free : FreeIn (after s d) (p / 4096)) where

@@ -13,7 +13,6 @@ use Rattle.lists.proofs.Choice.{true-false, yes!, no!, choose-elim}
 use Rattle.model.specs.declared.Right.{Right}
 use Rattle.model.specs.declared.Right.the-variants.{Read, Write}
 use Rattle.model.specs.declared.Translation.the-variants.{Reached}
-use Rattle.model.specs.Arguments.{arguments}
 use Rattle.model.specs.Calls.{target, writes}
 use Rattle.model.specs.Classes.{Moves, noBytes, fromSpace, toSpace, classOf, storesBytes}
 use Rattle.model.specs.Decision.{Effect, fetch, store}

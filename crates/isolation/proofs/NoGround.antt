@@ -10,7 +10,7 @@ use Rattle.model.specs.declared.Right.{Right}
 use Rattle.model.specs.declared.Right.the-variants.{Read, Write}
 use Rattle.model.specs.Classes.{Moves, noBytes, fromSpace, toSpace, classOf, isStore}
 use Rattle.model.specs.Step.{Issue}
-use Rattle.isolation.specs.Ground.{Never, Did, Owns, AtLeast, GivesUp, Withdraws, PermittedBefore, ByEntry, Ground}
+use Rattle.isolation.specs.Ground.{Did, Owns, AtLeast, GivesUp, Withdraws, PermittedBefore, ByEntry, Ground}
 use Rattle.isolation.specs.History.{Event, Deed, enrolled, permitted, isolated, added, removed, reset, deed}
 use Rattle.isolation.specs.Reaches.{MovesThrough, Through}
 use Rattle.isolation.specs.Recall.{usedIn}

@@ -11,7 +11,7 @@ use Rattle.model.specs.declared.State.{State}
 use Rattle.model.specs.Decision.{Decision, after}
 use Rattle.model.specs.Frames.{layout, placeOf, sizeOf, bytesOf}
 use Rattle.model.specs.Lawful.{SameSpace, cleared, Covers, Lawful}
-use Rattle.model.specs.Sound.{Live, Free, Sound}
+use Rattle.model.specs.Sound.{Live, FreeIn, Sound}
 use Rattle.model.specs.Tables.{spaceAt}
 use Rattle.model.proofs.Addresses.{place-frame}
 use Rattle.model.proofs.Searches.{live-slot}
@@ -28,10 +28,10 @@ outside-before X s n d law f out clean u l x (p, b, e) = ⊎-elim stays goes (la
     goes c = true-false (ap (cleared (d .effect)) (sym e) ∙ c p b) clean
 
 -- a free frame is outside every set, and one that is outside the set of all spaces is free
-pub free-outside : (X : ℕ → Bool) (s : State) → Sound s → (f : ℕ) → Free (layout s) (s .spaces) f → Outside X s f
+pub free-outside : (X : ℕ → Bool) (s : State) → Sound s → (f : ℕ) → FreeIn s f → Outside X s f
 free-outside X s ok f free u l x = free u (live-slot (s .spaces) u 32 (ok .spaces .len) l) l
 
-pub outside-free : (s : State) (f : ℕ) → Outside (λ _. true) s f → Free (layout s) (s .spaces) f
+pub outside-free : (s : State) (f : ℕ) → Outside (λ _. true) s f → FreeIn s f
 outside-free s f out u b l h = out u l refl h
 
 -- the bytes of a live space that is not in the set lie outside it

@@ -8,7 +8,7 @@ use lib.ListN.{replicate}
 use Rattle.model.specs.declared.State.{State}
 use Rattle.model.specs.Frames.{layout, frameBytes}
 use Rattle.model.specs.Sizes.{frameSize}
-use Rattle.model.specs.Sound.{Live, HasFrame, Free}
+use Rattle.model.specs.Sound.{Live, HasFrame, FreeIn}
 use Rattle.model.specs.Step.{Machine, Ready, Issue, Outcome, step, afterRun}
 use Rattle.isolation.specs.Kept.{Kept, leftBy}
 
@@ -26,19 +26,19 @@ ZeroOnceFreed =
     (m : Machine) (calls : List Issue) (f : ℕ)
     → Ready m
     → InUse (m .tables) f
-    → Free (layout (afterRun m calls .tables)) (afterRun m calls .tables .spaces) f
+    → FreeIn (afterRun m calls .tables) f
     → Zeroed f (afterRun m calls .scratch)
 
 -- the frame f is free in a machine, and after every call of a list
 unfoldable pub FreeThrough : (frame : ℕ) → Machine → List Issue → Type 0
-FreeThrough f m [] = Free (layout (m .tables)) (m .tables .spaces) f
-FreeThrough f m (i ∷ is) = Free (layout (m .tables)) (m .tables .spaces) f × FreeThrough f (step m i .machine) is
+FreeThrough f m [] = FreeIn (m .tables) f
+FreeThrough f m (i ∷ is) = FreeIn (m .tables) f × FreeThrough f (step m i .machine) is
 
 abbrev pub KeptWhileFree : Type 0
 KeptWhileFree = (m : Machine) (calls : List Issue) (f : ℕ) → Ready m → FreeThrough f m calls → frameBytes f (afterRun m calls .scratch) ≡ frameBytes f (m .scratch)
 
--- The first of these, of calls through the public face: `earlier` are the calls before call i, `later` the calls i to j, and `os` and `ps` what
--- they gave back and left.
+-- The first of these, of calls through the public face: `earlier` are the calls before call i, `later` the calls i to j, and `os`
+-- and `ps` what they gave back and left.
 abbrev pub ZeroOnceFreedKept : Type 0
 ZeroOnceFreedKept =
     (m : Machine) (earlier later : List Issue) (os ps : List Outcome) (f : ℕ)
@@ -46,5 +46,5 @@ ZeroOnceFreedKept =
     → Kept m earlier os
     → Kept (leftBy m os) later ps
     → InUse (leftBy m os .tables) f
-    → Free (layout (leftBy (leftBy m os) ps .tables)) (leftBy (leftBy m os) ps .tables .spaces) f
+    → FreeIn (leftBy (leftBy m os) ps .tables) f
     → Zeroed f (leftBy (leftBy m os) ps .scratch)

@@ -12,7 +12,7 @@ use Rattle.model.specs.Answers.{number, value}
 use Rattle.model.specs.Classes.{isStore}
 use Rattle.model.specs.Frames.{layout, placeOf, sizeOf, bytesOf, frameBytes}
 use Rattle.model.specs.Sizes.{frameSize}
-use Rattle.model.specs.Sound.{Live, HasFrame, Free}
+use Rattle.model.specs.Sound.{Live, HasFrame, FreeIn}
 use Rattle.model.specs.Step.{Machine, Ready, Issue, Outcome, step, run}
 use Rattle.model.specs.Tables.{spaceAt}
 use Rattle.isolation.specs.Reaches.{Reaches, ReachesIn}
@@ -98,7 +98,7 @@ EqualBut x s m₁ m₂ = (u : ℕ) → Live (s .spaces) u → spaceAt (s .spaces
 -- Paper 02, M-101: "Demand 3 then also gives equal bytes in the former frames of the space while they stay free." Every frame that
 -- no live space has holds equal bytes, whichever space had it.
 abbrev pub EqualFree : State → (scratch₁ scratch₂ : List ℕ) → Type 0
-EqualFree s m₁ m₂ = (f : ℕ) → Free (layout s) (s .spaces) f → frameBytes f m₁ ≡ frameBytes f m₂
+EqualFree s m₁ m₂ = (f : ℕ) → FreeIn s f → frameBytes f m₁ ≡ frameBytes f m₂
 
 -- Two outcomes of one call: the same answer, equal tables, equal bytes in each live space but that one and in each free frame, and
 -- an equal buffer unless the call reaches that space. `m` and `i` are the first run's machine before the call, and its call.

@@ -1,12 +1,8 @@
 -- BLOCK: it keeps a sound state sound, and what a done one does. Assumes nothing.
 use Prim.Native.Nat.{ℕ, _/_, _≤_, _<_}
-use mathlib.Core.Bool.{Bool}
-use mathlib.Core.Logic.{_≢_}
-use mathlib.Core.Path.{_≡_, refl, sym, _∙_}
+use mathlib.Core.Path.{_≡_, sym, _∙_}
 use native.Mathlib.Omega.{arith}
-use lib.Dec.{eqb}
 use lib.ListN.{length, length-set, set}
-use lib.Seq.{getD-set-same, getD-set-other}
 use Rattle.lists.proofs.Maps.{at-set}
 use Rattle.model.specs.declared.Cell.{Cell}
 use Rattle.model.specs.declared.State.{State}
@@ -16,7 +12,7 @@ use Rattle.model.specs.Granted.{Blocked}
 use Rattle.model.specs.Searches.{slotOf}
 use Rattle.model.specs.Sizes.{frameSize, slotCount, maxFrames, maxKey}
 use Rattle.model.specs.Sound.{Live, CellsOk, Sound}
-use Rattle.model.specs.Tables.{noCell, spaceAt, cellAt, withCells}
+use Rattle.model.specs.Tables.{noCell, spaceAt}
 use Rattle.model.proofs.Searches.{slot-found}
 
 -- a byte's page is one of its space

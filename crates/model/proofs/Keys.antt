@@ -3,12 +3,11 @@
 use Prim.Native.Nat.{ℕ, _+_, _-_, _*_, _/_, _≤_, _<_}
 use mathlib.Core.Bool.{Bool, true, false}
 use mathlib.Core.Logic.{_⊎_, inl, inr}
-use mathlib.Core.Path.{_≡_, refl, sym, ap}
+use mathlib.Core.Path.{_≡_, refl, sym}
 use native.Mathlib.Decide.{ℕ-discrete}
 use native.Mathlib.Omega.{arith}
 use Rattle.lists.specs.Choice.{both}
 use Rattle.lists.specs.Decides.{Decides}
-use Rattle.lists.specs.Places.{every}
 use Rattle.lists.proofs.Choice.{true-false, not-so, both-left, both-right, both-intro}
 use Rattle.lists.proofs.Decides.{d-eq, d-isnt, d-both, d-either, d-map, d-every}
 use Rattle.model.specs.declared.Cell.{Cell}

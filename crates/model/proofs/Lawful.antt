@@ -1,7 +1,7 @@
 -- Every call keeps to what is said of bytes in specs/Lawful. Assumes nothing.
 use Rattle.model.specs.Runs.{IsRun}
 use native.Mathlib.Omega.{arith}
-use Prim.Native.Nat.{ℕ, _+_, _<_}
+use Prim.Native.Nat.{ℕ, _+_}
 use mathlib.Core.Bool.{Bool, true, false}
 use mathlib.Core.Logic.{_≢_, _⊎_, inl, inr, ⊎-elim}
 use mathlib.Core.Path.{_≡_, refl, ap, _∙_, sym}

@@ -30,7 +30,8 @@ pub mod Types
 pub mod Classes
 pub mod Guards
 pub mod Effects
-pub mod SpaceEffects
+pub mod MakeEffects
+pub mod WithdrawEffects
 pub mod TransferEffects
 pub mod BlockEffect
 pub mod Steps

@@ -20,14 +20,14 @@ use Rattle.model.specs.declared.Right.the-variants.{Read}
 use Rattle.model.specs.declared.Standing.{Standing}
 use Rattle.model.specs.declared.Standing.the-variants.{Unused, Valid, Revoked}
 use Rattle.model.specs.declared.State.{State}
-use Rattle.model.specs.Changes.{allows, releasedFrom, released, revokedFrom, revoked, listOwner, permitSlot, releasedAll, vacated, unpermitted, loses, revokedAll, withdrawn, resetTables}
+use Rattle.model.specs.Changes.{allows, releasedFrom, released, revokedFrom, revoked, listOwner, permitSlot, releasedAll, unpermitted, loses, revokedAll, withdrawn, resetTables}
 use Rattle.model.specs.Decision.{Decision, after}
 use Rattle.model.specs.Frames.{layout}
 use Rattle.model.specs.Granted.{Destroyed, Isolated, ResetDone}
 use Rattle.model.specs.Names.{baseName}
 use Rattle.model.specs.Searches.{isOwned, isData, slotOf}
 use Rattle.model.specs.Sound.{IsGuest, IsEntry, Sound}
-use Rattle.model.specs.Tables.{noSpace, noPermit, unusedEntry, spaceAt, permitPlace, grantAt, entryPlace, entryAt, withEntries}
+use Rattle.model.specs.Tables.{noPermit, unusedEntry, spaceAt, permitPlace, grantAt, entryPlace, entryAt, withEntries}
 use Rattle.model.proofs.Entries.{list-owner, released-unused, released-small, released-nothing, allows-read, nothing-allowed}
 use Rattle.model.proofs.Withdraw.{none-freed, none-vacated, sound-withdrawn}
 
@@ -92,6 +92,16 @@ sound-reset s g d ok c =
     let closed : ℕ → Bool = λ u. isOwned g (spaceAt (s .spaces) u) in
     rw (c .is) (sound-released (withdrawn gone closed s) g
     (sound-withdrawn s gone closed ok (λ u e. both-left (closed u) _ e) (λ u e l. eqb-false _ baseName (not-to _ (both-right (closed u) _ e)))))
+
+-- an entry that was revoked is released like one that was valid
+pub released-revoked : (t : ℕ → Bool) (e : Entry) → released (revoked t e) ≡ released e
+unfolding released releasedFrom revoked revokedFrom
+released-revoked t e = go (e .standing)
+  where
+    go : (x : Standing) → releasedFrom (revokedFrom t x) (e .sequence) ≡ releasedFrom x (e .sequence)
+    go Unused = refl
+    go (Valid u r) = choose-elim (λ y. releasedFrom y (e .sequence) ≡ releasedFrom (Valid u r) (e .sequence)) (t u) Revoked (Valid u r) (λ _. refl) (λ _. refl)
+    go Revoked = refl
 
 -- a standing that the test spares stays
 pub standing-stays : (t : ℕ → Bool) (x : Standing) → ((u : ℕ) (r : Right) → x ≡ Valid u r → t u ≡ false) → revokedFrom t x ≡ x

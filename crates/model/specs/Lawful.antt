@@ -8,7 +8,7 @@ use mathlib.Core.Path.{_≡_}
 use Rattle.model.specs.declared.State.{State}
 use Rattle.model.specs.Decision.{Decision, after, Effect, none, clear, fetch, store}
 use Rattle.model.specs.Frames.{layout, frameOf, sizeOf}
-use Rattle.model.specs.Sound.{Live, Free}
+use Rattle.model.specs.Sound.{Live, FreeIn}
 use Rattle.model.specs.Tables.{spaceAt}
 
 -- slot u holds the same space in the same frames
@@ -47,5 +47,5 @@ pub record Lawful (s : State) (n : ℕ) (d : Decision) : Type 0 where
   pub frames : after s d .frames ≡ s .frames
   pub kept : (u : ℕ) → Live (after s d .spaces) u → (SameSpace s (after s d) u × Spares (after s d) (cleared (d .effect)) u) ⊎ Covers (after s d) (cleared (d .effect)) u
   pub left : (u : ℕ) → Live (s .spaces) u → SameSpace s (after s d) u ⊎ Covers s (cleared (d .effect)) u
-  pub idle : (f : ℕ) → Free (layout s) (s .spaces) f → Free (layout (after s d)) (after s d .spaces) f → cleared (d .effect) f ≡ false
+  pub idle : (f : ℕ) → FreeIn s f → FreeIn (after s d) f → cleared (d .effect) f ≡ false
   pub inside : EffectInside (after s d) n (d .effect)

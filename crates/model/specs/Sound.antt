@@ -108,6 +108,10 @@ HasFrame l ss u f = (p : ℕ) × (p < spaceAt ss u .pages) × (frameOf l u p ≡
 abbrev pub Free : Layout → List Space → (frame : ℕ) → Type 0
 Free l ss f = (u : ℕ) → u < slotCount → Live ss u → HasFrame l ss u f → ⊥
 
+-- the same, by whole tables
+abbrev pub FreeIn : State → (frame : ℕ) → Type 0
+FreeIn s f = Free (layout s) (s .spaces) f
+
 -- Paper 02, M-100: "New spaces, and free frames of a sound state, have key 0, mark off; all keys are 0 to 15." Frames are spoken
 -- of one by one.
 pub record CellsOk (ss : List Space) (l : Layout) (cs : List Cell) : Type 0 where

@@ -1,83 +1,40 @@
--- What a done ENROL, CREATE, DESTROY, ISOLATE and RESET do, in the words of their rows in paper 01, and that they do nothing
--- else. Assumes nothing.
-use Prim.Native.Nat.{ℕ, _+_, _*_, _/_, _<_}
+-- What a done DESTROY, ISOLATE and RESET do, in the words of their rows in paper 01, and that they do nothing else. Assumes nothing.
+use Prim.Native.Nat.{ℕ, _<_}
 use mathlib.Core.Bool.{Bool, true, false}
 use mathlib.Core.List.{List}
 use mathlib.Core.Logic.{_≢_, inl, inr, ⊎-elim}
 use mathlib.Core.Path.{_≡_, refl, sym, ap, _∙_}
-use native.Mathlib.Omega.{arith}
 use lib.Dec.{eqb}
-use lib.ListN.{getD, set, replicate}
-use lib.Seq.{getD-set-same, getD-set-other}
 use borrow.Author.Tests.{eq-eqb, eqb-true}
-use Rattle.lists.specs.Choice.{choose}
 use Rattle.lists.specs.Decides.{Decides}
-use Rattle.lists.specs.Lowest.{Lowest}
-use Rattle.lists.proofs.Choice.{true-false, not-so, yes!, no!, choose-elim}
+use Rattle.lists.proofs.Choice.{true-false, not-so, yes!, no! }
 use Rattle.lists.proofs.Decides.{d-eq, d-both, d-either, d-not, d-map}
 use Rattle.model.specs.declared.Caller.{Caller}
-use Rattle.model.specs.declared.Change.{Change}
 use Rattle.model.specs.declared.Entry.{Entry}
 use Rattle.model.specs.declared.Grant.the-variants.{Nothing}
-use Rattle.model.specs.declared.Guest.{Guest}
-use Rattle.model.specs.declared.Operation.the-variants.{Enrol, Create, Destroy, Isolate, Reset}
+use Rattle.model.specs.declared.Operation.the-variants.{Destroy, Isolate, Reset}
 use Rattle.model.specs.declared.Permit.{Permit}
 use Rattle.model.specs.declared.Right.{Right}
-use Rattle.model.specs.declared.Settings.{Settings}
 use Rattle.model.specs.declared.Space.{Space}
-use Rattle.model.specs.declared.Standing.{Standing}
 use Rattle.model.specs.declared.Standing.the-variants.{Unused, Valid, Revoked}
 use Rattle.model.specs.declared.State.{State}
-use Rattle.model.specs.Answers.{value}
-use Rattle.model.specs.Calls.{newSpace, newGuest, destroying, enrols, goodCaller}
-use Rattle.model.specs.Changes.{released, releasedFrom, revokedFrom, revoked, loses, withdrawn, resetTables, spaceAdded, applied, freed}
+use Rattle.model.specs.Calls.{enrols}
+use Rattle.model.specs.Changes.{released, revokedFrom, revoked, loses, withdrawn, resetTables, freed}
 use Rattle.model.specs.Decision.{Decision, after}
-use Rattle.model.specs.Frames.{layout, frameOf, bytesOf}
-use Rattle.model.specs.Granted.{Made, Performed}
+use Rattle.model.specs.Frames.{layout, frameOf}
+use Rattle.model.specs.Granted.{Performed}
 use Rattle.model.specs.Names.{baseName}
-use Rattle.model.specs.Runs.{IsRun}
-use Rattle.model.specs.Searches.{isOwned, isData, slotOf, dataSpaces, freeSlot, freeRun}
+use Rattle.model.specs.Searches.{isOwned, isData, slotOf}
 use Rattle.model.specs.Sound.{Live, IsGuest, IsEntry, Sound, HasFrame}
 use Rattle.model.specs.Step.{scratchAfter}
-use Rattle.model.specs.Tables.{noSpace, noGuest, spaceAt, guestAt, guestPlace, grantAt, entryAt, withNext, withSpaces, withGuests, withPermits, withEntries, withCells, noCell, cellAt}
+use Rattle.model.specs.Tables.{noSpace, spaceAt, grantAt, entryAt, withSpaces, withPermits, withEntries, withCells, noCell, cellAt}
 use Rattle.model.specs.declared.Cell.{Cell}
-use Rattle.model.proofs.Clearing.{clears-on, clears-off}
+use Rattle.model.proofs.Clearing.{BytesGo, bytes-go}
 use Rattle.model.proofs.Effects.{IsSpace, is-space, by, Done, all, ok, guest}
-use Rattle.model.proofs.Entries.{same-guest, released-unused}
-use Rattle.model.proofs.Reset.{standing-stays, released-own, released-other}
-use Rattle.model.proofs.Runs.{lowest-run, lowest-slot}
-use Rattle.model.proofs.Searches.{d-live, named-none, live-slot}
-use Rattle.model.proofs.Sound.{may-enrol, sound-kept}
-use Rattle.model.proofs.SpaceBytes.{clear-own}
+use Rattle.model.proofs.Entries.{released-unused}
+use Rattle.model.proofs.Reset.{standing-stays, released-revoked, released-own, released-other}
+use Rattle.model.proofs.Searches.{d-live, live-slot}
 use Rattle.model.proofs.Withdraw.{withdrawn-gone, withdrawn-kept, withdrawn-live, withdrawn-frame, withdrawn-grant, withdrawn-revoked, withdrawn-cell, d-freed, none-freed}
-
--- ENROL and CREATE "take the lowest unused space slot and the lowest run of free frames, and fill it with zeros". "Value:
--- identification", the next, "never given twice".
-pub record MakeEffect (s : State) (g k n : ℕ) (d : Decision) : Type 0 where
-  pub slot : ℕ
-  pub slot-below : slot < 32
-  pub slot-lowest : Lowest (λ u. spaceAt (s .spaces) u .id ≡ 0) 32 slot
-  pub start : ℕ
-  pub start-below : start < s .frames
-  pub run-lowest : Lowest (IsRun s n) (s .frames) start
-  pub space : spaceAt (after s d .spaces) slot ≡ record { id = s .next; owner = g; name = k; first = start; pages = n }
-  pub others : (u : ℕ) → u ≢ slot → spaceAt (after s d .spaces) u ≡ spaceAt (s .spaces) u
-  pub next : after s d .next ≡ s .next + 1
-  pub value : value (d .answer) ≡ s .next
-  pub blank : (p : ℕ) → p < n → cellAt (after s d .cells) (start + p) ≡ noCell
-  pub zeros : (m b : List ℕ) → bytesOf (after s d) slot (scratchAfter (after s d) (d .effect) m b) ≡ replicate (n * 4096) 0
-
-pub record EnrolEffect (s : State) (g : ℕ) (x : Settings) (d : Decision) : Type 0 where
-  pub made : MakeEffect s g baseName (x .pages) d
-  pub guest : guestAt (after s d .guests) g ≡ record { enrolled = true; allowance = x .allowance; share = eqb (x .share) 1; list = x .list; asf = eqb (x .asf) 1 }
-  pub others : (h : ℕ) → IsGuest h → h ≢ g → guestAt (after s d .guests) h ≡ guestAt (s .guests) h
-  pub rest : after s d ≡ withNext (withSpaces (withGuests s (after s d .guests)) (after s d .spaces)) (after s d .next)
-
-pub record CreateEffect (s : State) (g name pages : ℕ) (d : Decision) : Type 0 where
-  pub made : MakeEffect s g name pages d
-  pub new : (u : ℕ) → u < 32 → Live (s .spaces) u → spaceAt (s .spaces) u .owner ≡ g → spaceAt (s .spaces) u .name ≢ name
-  pub room : dataSpaces (s .spaces) g < guestAt (s .guests) g .allowance
-  pub rest : after s d ≡ withNext (withSpaces s (after s d .spaces)) (after s d .next)
 
 -- the slots of which G holds are empty, and every other stands as it stood
 pub record SpacesGo (before after : List Space) (G : ℕ → Type 0) : Type 0 where
@@ -102,11 +59,6 @@ pub record Withdrawn (L : ℕ → Type 0) (x y : Entry) : Type 0 where
 -- guests, registers, modes, access keys and the next identification stay
 abbrev pub RestStays : (before after : State) → Type 0
 RestStays s t = t ≡ withCells (withEntries (withPermits (withSpaces s (t .spaces)) (t .permits)) (t .entries)) (t .cells)
-
--- paper 02, M-101: in any scratch m, the frames of which G holds are filled with zeros, and every byte of another frame stays
-pub record BytesGo (s : State) (d : Decision) (G : ℕ → Type 0) : Type 0 where
-  pub gone : (m b : List ℕ) (p : ℕ) → G (p / 4096) → getD (scratchAfter (after s d) (d .effect) m b) p 0 ≡ 0
-  pub kept : (m b : List ℕ) (p : ℕ) → (G (p / 4096) → ⊥) → getD (scratchAfter (after s d) (d .effect) m b) p 0 ≡ getD m p 0
 
 -- DESTROY: "Every valid entry for it, in every list, becomes revoked. Permits vanish; frames are free for use again." Paper 02,
 -- M-101: "destroying fills the frames with zeros as well".
@@ -158,30 +110,6 @@ pub record ResetEffect (s : State) (g : ℕ) (d : Decision) : Type 0 where
   pub bytes : BytesGo s d (DataFrame s g)
   pub rest : RestStays s (after s d)
 
--- One law of making serves both.
-make-does : (s : State) (hs : List Guest) (g name pages : ℕ) (c : Change) (d : Decision) → Sound s → Sound (after s d)
-    → applied s c ≡ spaceAdded (withGuests s hs) (freeSlot (s .spaces)) (newSpace s g name pages) → Made s pages c d → MakeEffect s g name pages d
-unfolding newSpace value scratchAfter
-make-does s hs g name pages c d ok fine to m =
-    let u = freeSlot (s .spaces) in
-    let x : Space = record { id = s .next; owner = g; name = name; first = freeRun s pages; pages = pages } in
-    let is : spaceAt (set (s .spaces) u x) u ≡ x = getD-set-same (s .spaces) u x noSpace (omega (arith, ok .spaces .len, m .slot)) in
-    let there : spaceAt (applied s c .spaces) u ≡ x = ap (λ (y : State). spaceAt (y .spaces) u) to ∙ is in
-    rw (m .is) (record {
-      slot = u;
-      slot-below = m .slot;
-      slot-lowest = lowest-slot (s .spaces);
-      start = freeRun s pages;
-      start-below = m .run;
-      run-lowest = lowest-run s pages;
-      space = there;
-      others = λ v ne. ap (λ (y : State). spaceAt (y .spaces) v) to ∙ getD-set-other (s .spaces) u v x noSpace ne;
-      next = ap (λ (y : State). y .next) to;
-      value = refl;
-      blank = λ p b. ap (λ (y : State). cellAt (y .cells) (freeRun s pages + p)) to ∙ ok .cells .free (freeRun s pages + p) (lowest-run s pages .found (m .run) .free p b);
-      zeros = λ k b. clear-own (applied s c) (rw (m .is) at fine) u k ∙ ap (λ (y : Space). replicate (y .pages * 4096) 0) there;
-    })
-
 -- One law of withdrawing serves all three.
 module _ (s : State) (gone closed : ℕ → Bool) where
   spaces-go : (G : ℕ → Type 0) → ((u : ℕ) → Decides (gone u) (G u)) → SpacesGo (s .spaces) (withdrawn gone closed s .spaces) G
@@ -194,13 +122,6 @@ module _ (s : State) (gone closed : ℕ → Bool) where
   cells-go G d = record {
     gone = λ f y. withdrawn-cell s gone closed f ∙ yes! _ _ (d f .of y);
     kept = λ f n. withdrawn-cell s gone closed f ∙ no! _ _ (not-so _ (λ e. n (d f .to e)));
-  }
-
-  bytes-go : (c : Change) (G : ℕ → Type 0) → ((f : ℕ) → Decides (freed (layout s) (s .spaces) gone f) (G f)) → BytesGo s (destroying s gone c) G
-  unfolding scratchAfter
-  bytes-go c G d = record {
-    gone = λ m b p y. clears-on _ m p (d (p / 4096) .of y);
-    kept = λ m b p n. clears-off _ m p (not-so _ (λ e. n (d (p / 4096) .to e)));
   }
 
   permits-go : (C : ℕ → Type 0) → ((u : ℕ) → Decides (closed u) (C u)) → PermitsGo (s .permits) (withdrawn gone closed s .permits) C
@@ -232,16 +153,6 @@ module _ (s : State) (gone closed : ℕ → Bool) where
   unfolding withdrawn
   rest-stays = refl
 
--- an entry that was revoked is released like one that was valid
-released-revoked : (t : ℕ → Bool) (e : Entry) → released (revoked t e) ≡ released e
-unfolding released releasedFrom revoked revokedFrom
-released-revoked t e = go (e .standing)
-  where
-    go : (x : Standing) → releasedFrom (revokedFrom t x) (e .sequence) ≡ releasedFrom x (e .sequence)
-    go Unused = refl
-    go (Valid u r) = choose-elim (λ y. releasedFrom y (e .sequence) ≡ releasedFrom (Valid u r) (e .sequence)) (t u) Revoked (Valid u r) (λ _. refl) (λ _. refl)
-    go Revoked = refl
-
 d-same : (u v : ℕ) → Decides (eqb u v) (v ≡ u)
 d-same u v = d-map sym sym (d-eq u v)
 
@@ -255,39 +166,6 @@ d-owned s g u =
 module _ (s : State) (m : ℕ) (c : Caller) (n : ℕ) where
   abbrev g : ℕ
   g = c .guest
-
-  enrolling : (x : Settings) → Done s m c n (Enrol x) → IsGuest g
-  unfolding goodCaller enrols choose
-  enrolling x done = may-enrol s g (all s m c n (Enrol x) done .caller) .0
-
-  pub enrol-does : (x : Settings) → Done s m c n (Enrol x) → EnrolEffect s g x (by s m c n (Enrol x))
-  unfolding Performed newGuest newSpace
-  enrol-does x done =
-      let k = Enrol x in
-      let p = all s m c n k done .performed in
-      let fine = ok s m c n k done in
-      let i = enrolling x done in
-      let y : Guest = newGuest x in
-      let is : after s (by s m c n k) .guests ≡ set (s .guests) (guestPlace g) y = ap (λ (d : Decision). after s d .guests) (p .is) in
-      record {
-        made = make-does s _ g baseName (x .pages) _ (by s m c n k) fine (sound-kept s m _ n fine) refl p;
-        guest = ap (λ gs. guestAt gs g) is ∙ getD-set-same (s .guests) (guestPlace g) y noGuest (omega (arith, fine .guests .len));
-        others = λ h j ne. ap (λ gs. guestAt gs h) is ∙ getD-set-other (s .guests) (guestPlace g) (guestPlace h) y noGuest (λ e. ne (same-guest g h i j e));
-        rest = rw (p .is) refl;
-      }
-
-  pub create-does : (name pages : ℕ) → Done s m c n (Create name pages) → CreateEffect s g name pages (by s m c n (Create name pages))
-  unfolding Performed goodCaller enrols choose newSpace
-  create-does name pages done =
-      let k = Create name pages in
-      let p = all s m c n k done .performed in
-      let fine = ok s m c n k done in
-      record {
-        made = make-does s (s .guests) g name pages _ (by s m c n k) fine (sound-kept s m _ n fine) refl (p .made);
-        new = λ u b l o e. named-none (s .spaces) g name u (p .new) b l o e;
-        room = omega (arith, p .room, fine .guests .allowed g (all s m c n k done .caller));
-        rest = rw (p .made .is) refl;
-      }
 
   pub destroy-does : (i : ℕ) → Done s m c n (Destroy i) → DestroyEffect s g i (by s m c n (Destroy i))
   unfolding Performed loses
@@ -308,7 +186,7 @@ module _ (s : State) (m : ℕ) (c : Caller) (n : ℕ) where
         entries = λ h k. entry-withdrawn s (eqb u) (eqb u) (λ v. v ≡ u) h k (λ v.
             d-map (⊎-elim (λ e. e) (λ e. e .0)) (λ e. inl e) (d-either (d-same u v) (d-both (d-same u v) (d-not (d-eq (spaceAt (s .spaces) v .owner) h)))));
         cells = cells-go s (eqb u) (eqb u) _ d-goes;
-        bytes = bytes-go s (eqb u) (eqb u) _ _ d-goes;
+        bytes = bytes-go s _ _ _ refl d-goes;
         rest = rest-stays s (eqb u) (eqb u);
       })
 
@@ -354,6 +232,6 @@ module _ (s : State) (m : ℕ) (c : Caller) (n : ℕ) where
             d-map (⊎-elim (λ e. e .0) (λ e. e .0)) (λ o. inr (o, λ q. ne (sym q ∙ o .owner)))
             (d-either (d-data u) (d-both (d-owned s g u) (d-not (d-eq (spaceAt (s .spaces) u .owner) h))))) a j);
         cells = cells-go s gone closed _ d-goes;
-        bytes = bytes-go s gone closed _ _ d-goes;
+        bytes = bytes-go s _ _ _ refl d-goes;
         rest = refl;
       })
