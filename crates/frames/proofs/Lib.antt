@@ -1,0 +1,4 @@
+-- Laws of this crate.
+pub mod Inside
+pub mod Clearing
+pub mod Freeing
