@@ -21,10 +21,9 @@ use Rattle.model.specs.Names.{goodName}
 use Rattle.model.specs.Replies.{reply, callOf, Carried}
 use Rattle.model.specs.Searches.{slotNamed, dataSpaces}
 use Rattle.model.specs.Tables.{noGuest, guestAt}
-use Rattle.model.proofs.Rules.{place-yes, place-is}
+use Rattle.model.proofs.Rules.{stops, goes, place-yes, place-is}
 use Rattle.model.proofs.Searches.{enrolled-guest}
 use Rattle.making.specs.Made.{Makes}
-use Rattle.making.proofs.Done.{stops, goes}
 
 -- an enrolled guest's number
 pub owner-small : (gs : List Guest) (g at : ℕ) → at ≡ callerPlace gs g → at < 8 → g ≤ 8

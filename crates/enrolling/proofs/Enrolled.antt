@@ -24,12 +24,11 @@ use Rattle.model.specs.Arguments.{arguments, checkAll}
 use Rattle.model.specs.Calls.{enrol, perform, enrols, mayEnrol, goodCaller, judge, newGuest}
 use Rattle.model.specs.Decision.{Decision, refuse, check}
 use Rattle.model.specs.Names.{baseName}
-use Rattle.model.specs.Replies.{reply, replied, callOf, Carried}
-use Rattle.model.specs.Step.{scratchAfter}
+use Rattle.model.specs.Replies.{reply, callOf, Carried}
 use Rattle.model.specs.Tables.{guestAt, guestPlace}
+use Rattle.model.proofs.Rules.{refused, stops, goes}
 use Rattle.enrolling.specs.Enrolling.{newPlace, wrongOf, kindAt}
 use Rattle.making.specs.Made.{Makes}
-use Rattle.making.proofs.Done.{stops, goes}
 
 -- check 2
 module _ (gs : List Guest) (g at : ℕ) (is : at ≡ newPlace gs g) where
@@ -60,11 +59,6 @@ module _ (gs : List Guest) (g at : ℕ) (is : at ≡ newPlace gs g) where
 
   pub new-owner : at < 8 → g ≤ 8
   new-owner l = guest-high (new-may l)
-
--- a refusal by a decision that is one
-refused : (s : State) (d : Decision) (a : Answer) (m : List ℕ) → d ≡ refuse a → Carried s d (reply a s) m m
-unfolding replied scratchAfter
-refused s d a m e = rw e (record { reply = refl; scratch = refl })
 
 -- check 3, over the five tests
 abbrev wrong : (a b c d e : Bool) → ℕ

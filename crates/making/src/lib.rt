@@ -47,8 +47,7 @@ pub fn make(
             state: s,
         };
     }
-    let from = (first as usize) * 4096;
-    moves::clear(&mut scratch[from..], (pages as usize) * 4096);
+    frames::clear(scratch, first as usize, pages as usize);
     let mut t = s;
     t.guests = guests;
     t.next = s.next + 1;

@@ -14,7 +14,8 @@ use Rattle.model.specs.declared.Answer.{Answer}
 use Rattle.model.specs.declared.Reply.{Reply}
 use Rattle.model.specs.declared.State.{State}
 use Rattle.model.specs.Decision.{Decision, refuse, check}
-use Rattle.model.specs.Replies.{reply, replied}
+use Rattle.model.specs.Replies.{reply, replied, Carried}
+use Rattle.model.specs.Step.{scratchAfter}
 
 pub check-yes : {b : Bool} (a : Answer) (d : Decision) → b ≡ true → check b a d ≡ d
 unfolding check
@@ -32,6 +33,19 @@ unfolding replied
 refuse-at s b a d e = ap (replied s) (sym (check-no a d e))
 
 pub ruleset checks = (go-on, refuse-at)
+
+-- the same where scratch is told too: a refusal leaves it
+pub refused : (s : State) (d : Decision) (a : Answer) (m : List ℕ) → d ≡ refuse a → Carried s d (reply a s) m m
+unfolding replied scratchAfter
+refused s d a m e = rw e (record { reply = refl; scratch = refl })
+
+pub stops : (s : State) (b : Bool) (a : Answer) (d : Decision) (m : List ℕ) → b ≡ false → Carried s (check b a d) (reply a s) m m
+stops s b a d m e = refused s (check b a d) a m (check-no a d e)
+
+pub goes : (r : Reply) (s : State) (b : Bool) (a : Answer) (d : Decision) (m m' : List ℕ) → b ≡ true → Carried s d r m m' → Carried s (check b a d) r m m'
+goes r s b a d m m' e p = rw (check-yes a d e) p
+
+pub ruleset steps = (stops, goes)
 
 -- what the place of a caller tells
 pub place-no : (r : ℕ) (gs : List Guest) (g : ℕ) → r ≡ callerPlace gs g → 8 ≤ r → enrolled gs g ≡ false

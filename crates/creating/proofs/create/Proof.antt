@@ -3,8 +3,7 @@ use Rattle.lists.proofs.Rules.{tests}
 use Rattle.lists.specs.Choice.{choose}
 use Rattle.model.specs.Arguments.{arguments, checkAll}
 use Rattle.model.specs.Calls.{judge, goodCaller, enrols, perform, create}
-use Rattle.model.proofs.Rules.{places}
-use Rattle.making.proofs.Done.{steps}
+use Rattle.model.proofs.Rules.{steps, places}
 use Rattle.creating.proofs.Created.{create-named, create-full, create-done, owner-small}
 use borrow.Author.Needs.{needs}
 use Rattle.creating.proofs.create.Statement.{statement}

@@ -1,8 +1,9 @@
--- `making::make` meets its contract.
+-- `making::make` meets its contract. Assumes nothing.
 use Rattle.lists.proofs.Rules.{tests}
 use Rattle.lookup.proofs.Rules.{found}
 use Rattle.model.specs.Calls.{making}
-use Rattle.making.proofs.Done.{steps, make-done, clear-fits, first-small}
+use Rattle.model.proofs.Rules.{steps}
+use Rattle.making.proofs.Done.{make-done, clear-fits, first-small}
 use borrow.Author.Needs.{needs}
 use Rattle.making.proofs.make.Statement.{statement}
 use Rattle.making.proofs.make.Tie as tie
@@ -22,8 +23,8 @@ returns-3 c k to = search (steps, found, tests) depth 8
 clear-requires : tie.Need-clear-requires
 clear-requires c κs = search clear-fits
 
-cast-t25 : tie.Need-cast-t25
-cast-t25 c = search first-small
+cast-t22 : tie.Need-cast-t22
+cast-t22 c = search first-small
 
 returns-4 : tie.Need-returns-4
 returns-4 c = search make-done
@@ -38,15 +39,10 @@ make-spec =
     (λ c κs. search needs)
     returns-3
     (λ c. search needs)
-    (λ c. search needs)
-    (λ c. search needs)
-    (λ c. search needs)
-    (λ c. search needs)
-    (λ c. search needs)
     clear-requires
     (λ c. search needs)
     (λ c. search needs)
-    cast-t25
+    cast-t22
     (λ c. search needs)
     (λ c. search needs)
     (λ c. search needs)
