@@ -22,7 +22,7 @@ use Rattle.model.specs.declared.Space.{Space}
 use Rattle.model.specs.declared.State.{State}
 use Rattle.model.specs.Changes.{revoked, vacated, unpermitted, loses, revokedAll, blanked, withdrawn, applied}
 use Rattle.model.specs.Tables.{noSpace, spaceAt, withSpaces, withPermits, withEntries, withCells}
-use Rattle.model.proofs.Withdraw.{none-freed}
+use Rattle.model.proofs.Withdraw.{none-freed, none-vacated}
 use Rattle.model.specs.Leaves.{inRun}
 use Rattle.closing.specs.Slot.{losesSlot, slotClosed}
 use Rattle.closing.proofs.Freed.{freed-run}
@@ -33,11 +33,7 @@ absorbed true b = refl
 absorbed false b = refl
 
 module _ (ss : List Space) (u : ℕ) where
-  -- no slot is emptied, and one is
-  none-vacated : ss ≡ vacated (λ v. false) ss
-  unfolding vacated
-  none-vacated = sym (map-alike _ (λ v x. x) ss (λ v x b. no! _ _ refl) ∙ map-nothing ss)
-
+  -- one slot is emptied
   one-vacated : set ss u noSpace ≡ vacated (eqb u) ss
   unfolding vacated
   one-vacated = go (decLe (length ss) u)
@@ -62,7 +58,7 @@ module _ (ss : List Space) (u : ℕ) where
 module _ (s : State) (u : ℕ) where
   pub isolated : slotClosed s (spaceAt (s .spaces) u .owner) u ≡ applied s (IsolateSpace u)
   unfolding withdrawn
-  isolated = rw (owner-keeps (s .spaces) u, ← none-vacated (s .spaces) u, none-freed (s .spaces) (s .spaces) (s .cells))
+  isolated = rw (owner-keeps (s .spaces) u, none-vacated (s .spaces), none-freed (s .spaces) (s .spaces) (s .cells))
 
   -- the frames of the space that stood in the slot are blank
   abbrev freed-cells : List Cell

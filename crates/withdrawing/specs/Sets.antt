@@ -8,19 +8,13 @@ use lib.Dec.{eqb}
 use Rattle.lists.specs.Choice.{choose}
 use Rattle.lists.specs.Places.{mapPlaces}
 use Rattle.model.specs.declared.Entry.{Entry}
-use Rattle.model.specs.declared.Space.{Space}
 use Rattle.model.specs.Changes.{released, revoked, listOwner}
 use Rattle.model.specs.Leaves.{flag}
-use Rattle.model.specs.Tables.{spaceAt}
 
 -- the table l is the set of the slots of which p holds
 pub record IsSet (p : ℕ → Bool) (l : List Bool) : Type 0 where
   pub holds : (u : ℕ) → flag l u ≡ p u
   pub last : flag l 32 ≡ false
-
--- the slots of the spaces of which f holds
-unfoldable pub slotsOf : (Space → Bool) → List Space → (slot : ℕ) → Bool
-slotsOf f ss u = f (spaceAt ss u)
 
 -- guest g's entries become unused, and other guests' entries for closed spaces revoked
 unfoldable pub entriesReset : (guest : ℕ) → (closed : ℕ → Bool) → List Entry → List Entry
