@@ -28,7 +28,8 @@ use Rattle.model.specs.Tables.{noSpace, unusedEntry, spaceAt, live, withSpaces,
 use Rattle.closing.proofs.Ranges.{map-map}
 use Rattle.losses.specs.Looks.{namedSlot, lookPlace, revokedEntry}
 use Rattle.losses.proofs.Looks.{revoked-named}
-use Rattle.withdrawing.specs.Sets.{IsSet, slotsOf, entriesReset}
+use Rattle.frames.specs.Runs.{slotsOf}
+use Rattle.withdrawing.specs.Sets.{IsSet, entriesReset}
 
 -- Spaces: each is tested by itself, as if by its slot.
 pub spaces-reset : (g : ℕ) (ss t : List Space) → t ≡ mapPlaces (λ u x. choose (isData g x) noSpace x) ss → t ≡ vacated (slotsOf (isData g) ss) ss

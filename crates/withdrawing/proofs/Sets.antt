@@ -13,7 +13,8 @@ use Rattle.model.specs.declared.Space.{Space}
 use Rattle.model.specs.Leaves.{flag}
 use Rattle.model.specs.Searches.{isOwned}
 use Rattle.model.specs.Tables.{noSpace, spaceAt}
-use Rattle.withdrawing.specs.Sets.{IsSet, slotsOf}
+use Rattle.frames.specs.Runs.{slotsOf}
+use Rattle.withdrawing.specs.Sets.{IsSet}
 
 -- no slot
 pub none-set : IsSet (λ v. false) (replicate 33 false)

@@ -1,21 +1,23 @@
 // DESTROY and RESET. The first changes what belongs to one slot, the second what belongs to a guest. The slots of a guest's spaces
 // are a table of Booleans. Its last place is no slot and false: an entry that names no slot looks there, so that every
 // entry is looked up alike.
-ghost use Prim.Native.Nat.{_<_};
+ghost use Prim.Native.Nat.{_*_, _<_};
 ghost use mathlib.Core.Bool.{true, false};
 ghost use mathlib.Core.Path.{_≡_};
+ghost use lib.ListN.{length};
 ghost use Rattle.lists.specs.Choice.{choose};
 ghost use Rattle.model.specs.Calls.{judge};
 ghost use Rattle.model.specs.Changes.{vacated, unpermitted, freed, blanked, applied};
 ghost use Rattle.model.specs.Leaves.{flag};
-ghost use Rattle.model.specs.Replies.{replied, callOf};
+ghost use Rattle.model.specs.Replies.{Carried, callOf};
 ghost use Rattle.model.specs.Searches.{isOwned, isData};
+ghost use Rattle.model.specs.Sizes.{maxFrames};
 ghost use Rattle.model.specs.SoundTest.{sound};
 ghost use Rattle.model.specs.Tables.{noSpace};
 ghost use Rattle.model.specs.declared.Change.the-variants.{DestroySpace};
 ghost use Rattle.model.specs.declared.Operation.the-variants.{Destroy, Reset};
-ghost use Rattle.closing.specs.Run.{RunsInside};
-ghost use Rattle.withdrawing.specs.Sets.{IsSet, slotsOf, entriesReset};
+ghost use Rattle.frames.specs.Runs.{RunsInside, slotsOf};
+ghost use Rattle.withdrawing.specs.Sets.{IsSet, entriesReset};
 use lookup::Owned;
 use model::Answer;
 use model::Caller;
@@ -29,7 +31,7 @@ use model::State;
 // The tables without the space in a slot: the slot is empty, the space's permits are gone, no guest keeps an entry for it, and its
 // frames lose their keys.
 fn destroy_at(mut s: State, slot: u8) -> State
-    requires { ⌜ (slot < 32) × RunsInside (s .spaces) ⌝ }
+    requires { ⌜ (slot < 32) × RunsInside maxFrames (s .spaces) ⌝ }
     ensures { λ r. ⌜ r ≡ applied s (DestroySpace slot) ⌝ }
 {
     let x = s.spaces[slot as usize];
@@ -43,10 +45,10 @@ fn destroy_at(mut s: State, slot: u8) -> State
     s
 }
 
-// Every valid entry for the space becomes revoked, its permits vanish, and its frames are free for use again.
-pub fn destroy(s: State, caller: Caller, id: u32) -> Reply
-    requires { ⌜ sound s ≡ true ⌝ }
-    ensures { λ r. ⌜ r ≡ replied s (judge s (callOf caller (Destroy id)) 0) ⌝ }
+// Every valid entry for the space becomes revoked, its permits vanish, and its frames, filled with zeros, are free for use again.
+pub fn destroy(s: State, scratch: &mut [u8], caller: Caller, id: u32) -> Reply
+    requires { ⌜ (sound s ≡ true) × (length (now scratch) ≡ s .frames * 4096) ⌝ }
+    ensures { λ r. ⌜ Carried s (judge s (callOf caller (Destroy id)) 0) r (now (scratch .entry)) (now (scratch .exit)) ⌝ }
 {
     let guests = s.guests;
     let at = lookup::caller_place(guests, caller.guest);
@@ -73,6 +75,7 @@ pub fn destroy(s: State, caller: Caller, id: u32) -> Reply
             state: s,
         };
     }
+    frames::clear(scratch, x.first as usize, x.pages as usize);
     Reply {
         answer: Answer::Done { value: 0 },
         state: destroy_at(s, slot),
@@ -109,25 +112,15 @@ fn vacate(spaces: [Space; 32], guest: u32) -> [Space; 32]
     t
 }
 
-// How many frames of a space are freed where a guest is reset: all of a data space of the guest, of others none.
-fn freed_pages(x: Space, guest: u32) -> u16
-    ensures { λ r. ⌜ r ≡ choose (isData guest x) (x .pages) 0 ⌝ }
-{
-    if slots::is_data(x, guest) {
-        return x.pages;
-    }
-    0
-}
-
 // The frames of a guest's data spaces lose their keys and marks, run by run.
 fn blank_frames(mut cells: [Cell; 512], spaces: [Space; 32], guest: u32) -> [Cell; 512]
-    requires { ⌜ RunsInside spaces ⌝ }
+    requires { ⌜ RunsInside maxFrames spaces ⌝ }
     ensures { λ r. ⌜ r ≡ blanked (freed spaces spaces (slotsOf (isData guest) spaces)) cells ⌝ }
 {
     for u in 0..32usize {
         let x = spaces[u];
         let first = x.first as usize;
-        for f in first..first + freed_pages(x, guest) as usize {
+        for f in first..first + frames::freed_pages(x, guest) as usize {
             cells[f] = losses::no_cell();
         }
     }
@@ -161,10 +154,11 @@ fn clear_lists(entries: [Entry; 240], guest: u32, closed: [bool; 33]) -> [Entry;
     t
 }
 
-// The caller's data spaces are destroyed, its primary space is isolated, and all its entries become unused.
-pub fn reset(s: State, caller: Caller) -> Reply
-    requires { ⌜ sound s ≡ true ⌝ }
-    ensures { λ r. ⌜ r ≡ replied s (judge s (callOf caller Reset) 0) ⌝ }
+// The caller's data spaces are destroyed, their frames filled with zeros, its primary space is isolated, and all its entries become
+// unused.
+pub fn reset(s: State, scratch: &mut [u8], caller: Caller) -> Reply
+    requires { ⌜ (sound s ≡ true) × (length (now scratch) ≡ s .frames * 4096) ⌝ }
+    ensures { λ r. ⌜ Carried s (judge s (callOf caller Reset) 0) r (now (scratch .entry)) (now (scratch .exit)) ⌝ }
 {
     let guests = s.guests;
     let at = lookup::caller_place(guests, caller.guest);
@@ -183,6 +177,7 @@ pub fn reset(s: State, caller: Caller) -> Reply
     let permits_after = unpermit(permits, closed);
     let entries_after = clear_lists(entries, caller.guest, closed);
     let cells_after = blank_frames(cells, spaces, caller.guest);
+    frames::clear_data(scratch, spaces, caller.guest);
     let mut t = s;
     t.spaces = spaces_after;
     t.permits = permits_after;

@@ -8,10 +8,11 @@ use borrow.Author.Needs.{needs}
 use Rattle.model.specs.Changes.{blanked}
 use Rattle.model.specs.Searches.{isData}
 use Rattle.model.specs.Tables.{noCell}
+use Rattle.frames.specs.Runs.{slotsOf}
+use Rattle.frames.proofs.Freeing.{freedBelow, freed-inside}
 use Rattle.closing.proofs.Closed.{turns}
 use Rattle.closing.proofs.Ranges.{Ranged}
-use Rattle.withdrawing.specs.Sets.{slotsOf}
-use Rattle.withdrawing.proofs.Freeing.{freedBelow, blanked-length, run-room, freeing}
+use Rattle.withdrawing.proofs.Freeing.{blanked-length, freeing}
 use Rattle.withdrawing.proofs.blank_frames.Statement.{statement}
 use Rattle.withdrawing.proofs.blank_frames.Tie as tie
 
@@ -31,7 +32,7 @@ loop-holds : tie.Need-loop-holds Inv-loop2 μ-loop2 Inv-loop μ-loop
 loop-holds c = (omega arith, search freeing)
 
 loop2-holds : tie.Need-loop2-holds Inv-loop2 μ-loop2 Inv-loop μ-loop
-loop2-holds c = (search run-room, search blanked-length, omega arith, search turns)
+loop2-holds c = (search freed-inside, search blanked-length, omega arith, search turns)
 
 loop2-again : tie.Need-loop2-again Inv-loop2 μ-loop2 Inv-loop μ-loop
 loop2-again c = (search needs, search needs, omega arith, search turns)

@@ -1,6 +1,6 @@
 -- `withdrawing::destroy_at` meets its contract. Assumes nothing.
 use borrow.Author.Needs.{needs}
-use Rattle.closing.proofs.Freed.{run-inside}
+use Rattle.frames.proofs.Inside.{run-inside}
 use Rattle.closing.proofs.Withdrawn.{destroyed-by}
 use Rattle.withdrawing.proofs.destroy_at.Statement.{statement}
 use Rattle.withdrawing.proofs.destroy_at.Tie as tie

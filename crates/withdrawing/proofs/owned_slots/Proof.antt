@@ -3,7 +3,7 @@ use Prim.Native.Nat.{_≤_, _-_}
 use mathlib.Core.Path.{_≡_}
 use native.Mathlib.Omega.{arith}
 use Rattle.model.specs.Searches.{isOwned}
-use Rattle.withdrawing.specs.Sets.{slotsOf}
+use Rattle.frames.specs.Runs.{slotsOf}
 use Rattle.withdrawing.proofs.Sets.{slotsBelow, slots}
 use borrow.Author.Needs.{needs}
 use Rattle.withdrawing.proofs.owned_slots.Statement.{statement}
