@@ -40,11 +40,11 @@ module _ (s : State) (c : Caller) (k : Operation) (m b : List ℕ) where
       → a ≡ judge s (callOf c k) 0 .answer → Served s (callOf c k) (reply a s) m b m b
   asked u lt ls lb a e = still u ls lb (reply a s) (replied-kept 0 a lt e)
 
-  -- a space made: its frames cleared
-  pub made : Unmoving (touch k) → LeavesBuffer (touch k) → (r : Reply) (m' : List ℕ) → Carried s (judge s (callOf c k) 0) r m m'
+  -- tables and frames
+  pub cleared : Unmoving (touch k) → LeavesBuffer (touch k) → (r : Reply) (m' : List ℕ) → Carried s (judge s (callOf c k) 0) r m m'
       → Served s (callOf c k) r m b m' b
   unfolding scratchJudged
-  made u lb r m' e = record {
+  cleared u lb r m' e = record {
     reply = e .reply ∙ ap (λ d. replied s d) (sym (any-length s c k (length b) u));
     scratch = e .scratch ∙ bufferless s c k 0 m _ b u ∙ ap (λ d. scratchAfter (after s d) (d .effect) m b) (sym (any-length s c k (length b) u));
     buffer = sym (buffer-kept s c k m b lb);
@@ -67,14 +67,15 @@ module _ (s : State) (k : Call) (m b : List ℕ) where
 
   pub enrol-served : (x : Settings) (r : Reply) (m' : List ℕ) → k .operation ≡ Enrol x
       → Carried s (judge s (callOf (k .caller) (Enrol x)) 0) r m m' → Served s k r m b m' b
-  enrol-served x r m' e = rw e (made s (k .caller) (Enrol x) m b tt tt r m')
+  enrol-served x r m' e = rw e (cleared s (k .caller) (Enrol x) m b tt tt r m')
 
   pub create-served : (name pages : ℕ) (r : Reply) (m' : List ℕ) → k .operation ≡ Create name pages
       → Carried s (judge s (callOf (k .caller) (Create name pages)) 0) r m m' → Served s k r m b m' b
-  create-served name pages r m' e = rw e (made s (k .caller) (Create name pages) m b tt tt r m')
+  create-served name pages r m' e = rw e (cleared s (k .caller) (Create name pages) m b tt tt r m')
 
-  pub destroy-served : (id : ℕ) (r : Reply) → k .operation ≡ Destroy id → Replied (Destroy id) r → Served s k r m b m b
-  destroy-served id r e = rw e (still s (k .caller) (Destroy id) m b tt tt tt r)
+  pub destroy-served : (id : ℕ) (r : Reply) (m' : List ℕ) → k .operation ≡ Destroy id
+      → Carried s (judge s (callOf (k .caller) (Destroy id)) 0) r m m' → Served s k r m b m' b
+  destroy-served id r m' e = rw e (cleared s (k .caller) (Destroy id) m b tt tt r m')
 
   pub permit-served : (id guest : ℕ) (right : Right) (r : Reply) → k .operation ≡ Permit id guest right → Replied (Permit id guest right) r → Served s k r m b m b
   permit-served id guest right r e = rw e (still s (k .caller) (Permit id guest right) m b tt tt tt r)
@@ -108,8 +109,9 @@ module _ (s : State) (k : Call) (m b : List ℕ) where
       → m' ≡ scratchJudged s (callOf (k .caller) (Store register address)) m b → Served s k (reply a s) m b m' b
   store-served register address a m' e = rw e (stored s (k .caller) (Store register address) m b tt tt a m')
 
-  pub reset-served : (r : Reply) → k .operation ≡ Reset → Replied Reset r → Served s k r m b m b
-  reset-served r e = rw e (still s (k .caller) Reset m b tt tt tt r)
+  pub reset-served : (r : Reply) (m' : List ℕ) → k .operation ≡ Reset
+      → Carried s (judge s (callOf (k .caller) Reset) 0) r m m' → Served s k r m b m' b
+  reset-served r m' e = rw e (cleared s (k .caller) Reset m b tt tt r m')
 
   pub key-served : (key : ℕ) (r : Reply) → k .operation ≡ Key key → Replied (Key key) r → Served s k r m b m b
   key-served key r e = rw e (still s (k .caller) (Key key) m b tt tt tt r)

@@ -18,7 +18,7 @@ use Rattle.model.specs.Step.{scratchAfter, bufferAfter}
 use Rattle.model.specs.Verdict.{row, Verdict, refused, granted}
 use Rattle.model.proofs.Verdict.{judged}
 
--- the tables alone, nothing, the tables and a new space's frames, the lent buffer, or a space's bytes
+-- the tables alone, nothing, the tables and frames: a new space's, or those of spaces that go; the lent buffer, or a space's bytes
 pub data Touch : Type 0 where
   tables : Touch
   nothing : Touch
@@ -29,7 +29,7 @@ pub data Touch : Type 0 where
 abbrev pub touch : Operation → Touch
 touch (Enrol x) = frames
 touch (Create name pages) = frames
-touch (Destroy id) = tables
+touch (Destroy id) = frames
 touch (Permit id guest right) = tables
 touch (Isolate id) = tables
 touch (Query owner name) = nothing
@@ -39,7 +39,7 @@ touch (Load register value) = tables
 touch (Mode m) = tables
 touch (Fetch register address) = buffer
 touch (Store register address) = bytes
-touch Reset = tables
+touch Reset = frames
 touch (Key key) = tables
 touch (Block id address key mark) = tables
 

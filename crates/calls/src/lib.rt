@@ -19,7 +19,7 @@ pub fn serve(s: State, scratch: &mut [u8], call: Call, buffer: &mut [u8]) -> Rep
     match operation {
         Operation::Enrol { settings } => enrolling::enrol(s, scratch, caller, settings),
         Operation::Create { name, pages } => creating::create(s, scratch, caller, name, pages),
-        Operation::Destroy { id } => withdrawing::destroy(s, caller, id),
+        Operation::Destroy { id } => withdrawing::destroy(s, scratch, caller, id),
         Operation::Permit { id, guest, right } => rights::permit(s, caller, id, guest, right),
         Operation::Isolate { id } => rights::isolate(s, caller, id),
         Operation::Query { owner, name } => Reply {
@@ -38,7 +38,7 @@ pub fn serve(s: State, scratch: &mut [u8], call: Call, buffer: &mut [u8]) -> Rep
             answer: access::store(s, scratch, caller, register, address, buffer),
             state: s,
         },
-        Operation::Reset => withdrawing::reset(s, caller),
+        Operation::Reset => withdrawing::reset(s, scratch, caller),
         Operation::Key { key } => cpus::key(s, caller, key),
         Operation::Block {
             id,

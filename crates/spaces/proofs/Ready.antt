@@ -20,7 +20,7 @@ use Rattle.model.specs.Replies.{reply, replied, callOf, Carried}
 use Rattle.model.specs.SoundTest.{sound}
 use Rattle.model.proofs.Promise.{promise-unready, promise-ready}
 use Rattle.calls.specs.Served.{Served}
-use Rattle.calls.proofs.Served.{still, made, asked, fetched, stored}
+use Rattle.calls.proofs.Served.{still, cleared, asked, fetched, stored}
 use Rattle.calls.proofs.Touches.{touch, LeavesTables, LeavesScratch, LeavesBuffer, Unmoving}
 
 -- what check 1 has found
@@ -59,10 +59,10 @@ module _ (s : State) (c : Caller) (k : Operation) (m : List ℕ) (x : Bool) wher
       → a ≡ judge s (callOf c k) 0 .answer → Promise (stepOf s m (callOf c k) []) a s m []
   asks u lt ls lb a e t q = serves s (callOf c k) m [] m [] (reply a s) x e t (asked s c k m [] u lt ls lb a q)
 
-  -- a space made
-  pub makes : Unmoving (touch k) → LeavesBuffer (touch k) → (r : Reply) (m' : List ℕ) → x ≡ ready s (length m) → x ≡ true
+  -- tables and frames
+  pub clears : Unmoving (touch k) → LeavesBuffer (touch k) → (r : Reply) (m' : List ℕ) → x ≡ ready s (length m) → x ≡ true
       → Carried s (judge s (callOf c k) 0) r m m' → Promise (stepOf s m (callOf c k) []) (r .answer) (r .state) m' []
-  makes u lb r m' e t q = serves s (callOf c k) m [] m' [] r x e t (made s c k m [] u lb r m' q)
+  clears u lb r m' e t q = serves s (callOf c k) m [] m' [] r x e t (cleared s c k m [] u lb r m' q)
 
   -- bytes moved
   pub fetches : LeavesTables (touch k) → LeavesScratch (touch k) → (b b' : List ℕ) (a : Answer) → x ≡ ready s (length m) → x ≡ true

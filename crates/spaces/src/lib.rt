@@ -63,13 +63,13 @@ pub fn create(s: State, scratch: &mut [u8], caller: Caller, name: u64, pages: u3
     creating::create(s, scratch, caller, name, pages)
 }
 
-pub fn destroy(s: State, scratch: &[u8], caller: Caller, id: u32) -> Reply
-    ensures { λ r. ⌜ Promise (stepOf s (now (scratch .entry)) (callOf caller (Destroy id)) []) (r .answer) (r .state) (now (scratch .entry)) [] ⌝ }
+pub fn destroy(s: State, scratch: &mut [u8], caller: Caller, id: u32) -> Reply
+    ensures { λ r. ⌜ Promise (stepOf s (now (scratch .entry)) (callOf caller (Destroy id)) []) (r .answer) (r .state) (now (scratch .exit)) [] ⌝ }
 {
     if !ready::is_ready(s, scratch.len()) {
         return unsound(s);
     }
-    withdrawing::destroy(s, caller, id)
+    withdrawing::destroy(s, scratch, caller, id)
 }
 
 pub fn permit(s: State, scratch: &[u8], caller: Caller, id: u32, guest: u32, right: Right) -> Reply
@@ -195,13 +195,13 @@ pub fn store(
     access::store(s, scratch, caller, register, address, bytes)
 }
 
-pub fn reset(s: State, scratch: &[u8], caller: Caller) -> Reply
-    ensures { λ r. ⌜ Promise (stepOf s (now (scratch .entry)) (callOf caller Reset) []) (r .answer) (r .state) (now (scratch .entry)) [] ⌝ }
+pub fn reset(s: State, scratch: &mut [u8], caller: Caller) -> Reply
+    ensures { λ r. ⌜ Promise (stepOf s (now (scratch .entry)) (callOf caller Reset) []) (r .answer) (r .state) (now (scratch .exit)) [] ⌝ }
 {
     if !ready::is_ready(s, scratch.len()) {
         return unsound(s);
     }
-    withdrawing::reset(s, caller)
+    withdrawing::reset(s, scratch, caller)
 }
 
 // Any of the fifteen as a value.

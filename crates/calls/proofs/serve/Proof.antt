@@ -87,6 +87,7 @@ serve-spec =
     returns
     (λ c. search needs)
     returns-2
+    (λ c. search needs)
     returns-3
     returns-4
     returns-5
@@ -101,6 +102,7 @@ serve-spec =
     (λ c. search needs)
     (λ c. search needs)
     returns-12
+    (λ c. search needs)
     returns-13
     returns-14
     returns-15)

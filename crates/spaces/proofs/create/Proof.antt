@@ -1,7 +1,7 @@
 -- `spaces::create` meets its contract. Assumes nothing.
 use borrow.Author.Needs.{needs}
 use Rattle.lists.proofs.Rules.{tests}
-use Rattle.spaces.proofs.Ready.{ready-sound, ready-room, refuses-with, makes}
+use Rattle.spaces.proofs.Ready.{ready-sound, ready-room, refuses-with, clears}
 use Rattle.spaces.proofs.create.Statement.{statement}
 use Rattle.spaces.proofs.create.Tie as tie
 
@@ -12,7 +12,7 @@ create-requires : tie.Need-create-requires
 create-requires c κs = search (needs, tests, ready-sound, ready-room)
 
 returns-2 : tie.Need-returns-2
-returns-2 c = search (makes, tests)
+returns-2 c = search (clears, tests)
 
 pub create-spec : {M : Type 1} → statement M
 create-spec = tie.close (tie.spec (λ c κs. search needs) (λ c κs. search needs) returns create-requires (λ c. search needs) returns-2)

@@ -1,7 +1,7 @@
 -- `spaces::reset` meets its contract. Assumes nothing.
 use borrow.Author.Needs.{needs}
 use Rattle.lists.proofs.Rules.{tests}
-use Rattle.spaces.proofs.Ready.{ready-sound, refuses-with, changes-tables}
+use Rattle.spaces.proofs.Ready.{ready-sound, ready-room, refuses-with, clears}
 use Rattle.spaces.proofs.reset.Statement.{statement}
 use Rattle.spaces.proofs.reset.Tie as tie
 
@@ -9,10 +9,10 @@ returns : tie.Need-returns
 returns c = search (refuses-with, tests)
 
 reset-requires : tie.Need-reset-requires
-reset-requires c κs = search (needs, tests, ready-sound)
+reset-requires c κs = search (needs, tests, ready-sound, ready-room)
 
 returns-2 : tie.Need-returns-2
-returns-2 c = search (changes-tables, tests)
+returns-2 c = search (clears, tests)
 
 pub reset-spec : {M : Type 1} → statement M
-reset-spec = tie.close (tie.spec (λ c κs. search needs) (λ c κs. search needs) returns reset-requires returns-2)
+reset-spec = tie.close (tie.spec (λ c κs. search needs) (λ c κs. search needs) returns reset-requires (λ c. search needs) returns-2)
