@@ -3,11 +3,11 @@ use Prim.Native.Nat.{ℕ, zero, suc, _+_, _-_, _≤_, _<_}
 use mathlib.Core.List.{List, [], _∷_, _++_, append-nil}
 use mathlib.Core.Logic.{_≢_}
 use mathlib.Core.Path.{_≡_, refl, sym, ap, ap₂, _∙_}
-use native.Mathlib.Decide.{ℕ-discrete, decLe}
+use native.Mathlib.Decide.{decLe}
 use native.Mathlib.Nat.{zero-add}
 use native.Mathlib.Numerals.{add-one}
 use native.Mathlib.Omega.{arith}
-use lib.ListN.{length, getD, set, take, drop, replicate, length-set, length-take, length-drop, length-append, drop-of-length-le, List·getD-append}
+use lib.ListN.{length, getD, set, take, drop, length-set, length-take, length-drop, length-append, drop-of-length-le, List·getD-append}
 use lib.Seq.{getD-set-same, getD-set-other, ext-getD, getD-take, getD-drop, length-take-le, take-all, drop-drop, getD-append-add, paste, paste-zero, paste-suc}
 use Rattle.lists.specs.Bytes.{over, part, put, get}
 
@@ -91,22 +91,15 @@ module _ {A : Type 0} where
       ∙ append-nil _
       ∙ ap (λ r. x ++ r) (drop-drop (0 + length x) p l ∙ ap (λ k. drop (p + k) l) (zero-add (length x))))
 
--- one byte stored in two lists that agree there, or whatever they held
-set-agree : (m n : List ℕ) (q b p : ℕ) → length m ≡ length n → (p ≢ q → getD m p 0 ≡ getD n p 0) → getD (set m q b) p 0 ≡ getD (set n q b) p 0
+-- one byte stored in two lists
+set-agree : (m n : List ℕ) (q b p : ℕ) → length m ≡ length n → getD m p 0 ≡ getD n p 0 → getD (set m q b) p 0 ≡ getD (set n q b) p 0
 set-agree [] [] q b p l e = refl
 set-agree [] (y ∷ ys) q b p l e = absurd (omega arith)
 set-agree (x ∷ xs) [] q b p l e = absurd (omega arith)
 set-agree (x ∷ xs) (y ∷ ys) zero b zero l e = refl
-set-agree (x ∷ xs) (y ∷ ys) (suc q) b zero l e = e (λ z. omega arith)
-set-agree (x ∷ xs) (y ∷ ys) zero b (suc p) l e = e (λ z. omega arith)
-set-agree (x ∷ xs) (y ∷ ys) (suc q) b (suc p) l e = set-agree xs ys q b p (omega arith) (λ ne. e (λ z. ne (omega arith)))
-
-set-zero : (m : List ℕ) (q p : ℕ) → (p ≢ q → getD m p 0 ≡ 0) → getD (set m q 0) p 0 ≡ 0
-set-zero [] q p e = refl
-set-zero (x ∷ xs) zero zero e = refl
-set-zero (x ∷ xs) (suc q) zero e = e (λ z. omega arith)
-set-zero (x ∷ xs) zero (suc p) e = e (λ z. omega arith)
-set-zero (x ∷ xs) (suc q) (suc p) e = set-zero xs q p (λ ne. e (λ z. ne (omega arith)))
+set-agree (x ∷ xs) (y ∷ ys) (suc q) b zero l e = e
+set-agree (x ∷ xs) (y ∷ ys) zero b (suc p) l e = e
+set-agree (x ∷ xs) (y ∷ ys) (suc q) b (suc p) l e = set-agree xs ys q b p (omega arith) e
 
 module _ (pl : ℕ → ℕ) where
   pub length-put : (a : ℕ) (bs m : List ℕ) → length (put pl a bs m) ≡ length m
@@ -164,40 +157,12 @@ module _ (pl : ℕ → ℕ) where
   get-agree a (suc n) m₁ m₂ h =
       ap₂ _∷_ (h a (omega arith) (omega arith)) (get-agree (a + 1) n m₁ m₂ (λ k l u. h k (omega arith) (omega arith)))
 
-  -- the same bytes written to two lists: they agree where they agreed, and where they were written
+  -- the same bytes written to two lists: they agree where they agreed
   pub put-agree : (a : ℕ) (bs m₁ m₂ : List ℕ) (p : ℕ) → length m₁ ≡ length m₂ → getD m₁ p 0 ≡ getD m₂ p 0 → getD (put pl a bs m₁) p 0 ≡ getD (put pl a bs m₂) p 0
   unfolding put
   put-agree a [] m₁ m₂ p l e = e
   put-agree a (b ∷ bs) m₁ m₂ p l e =
-      put-agree (a + 1) bs (set m₁ (pl a) b) (set m₂ (pl a) b) p (length-set m₁ (pl a) b ∙ l ∙ sym (length-set m₂ (pl a) b)) (set-agree m₁ m₂ (pl a) b p l (λ _. e))
-
-  pub put-fresh : (a : ℕ) (bs m₁ m₂ : List ℕ) (k : ℕ) → length m₁ ≡ length m₂ → a ≤ k → k < a + length bs → getD (put pl a bs m₁) (pl k) 0 ≡ getD (put pl a bs m₂) (pl k) 0
-  unfolding put
-  put-fresh a [] m₁ m₂ k l h u = absurd (omega arith)
-  put-fresh a (b ∷ bs) m₁ m₂ k l h u = go (ℕ-discrete k a) (λ ne. put-fresh (a + 1) bs (set m₁ (pl a) b) (set m₂ (pl a) b) k l2 (omega arith) (omega arith))
-    where
-      l2 : length (set m₁ (pl a) b) ≡ length (set m₂ (pl a) b)
-      l2 = length-set m₁ (pl a) b ∙ l ∙ sym (length-set m₂ (pl a) b)
-
-      go : Dec (k ≡ a) → (k ≢ a → getD (put pl (a + 1) bs (set m₁ (pl a) b)) (pl k) 0 ≡ getD (put pl (a + 1) bs (set m₂ (pl a) b)) (pl k) 0)
-          → getD (put pl (a + 1) bs (set m₁ (pl a) b)) (pl k) 0 ≡ getD (put pl (a + 1) bs (set m₂ (pl a) b)) (pl k) 0
-      go (yes e) r = put-agree (a + 1) bs (set m₁ (pl a) b) (set m₂ (pl a) b) (pl k) l2 (set-agree m₁ m₂ (pl a) b (pl k) l (λ ne. absurd (ne (ap pl e))))
-      go (no ne) r = r ne
-
-  -- zeros written stay, and stand where they were written, inside the list or not
-  put-zeros-stay : (a n : ℕ) (m : List ℕ) (p : ℕ) → getD m p 0 ≡ 0 → getD (put pl a (replicate n 0) m) p 0 ≡ 0
-  unfolding put
-  put-zeros-stay a zero m p e = e
-  put-zeros-stay a (suc n) m p e = put-zeros-stay (a + 1) n (set m (pl a) 0) p (set-zero m (pl a) p (λ _. e))
-
-  pub put-zeros : (a n : ℕ) (m : List ℕ) (k : ℕ) → a ≤ k → k < a + n → getD (put pl a (replicate n 0) m) (pl k) 0 ≡ 0
-  unfolding put
-  put-zeros a zero m k h u = absurd (omega arith)
-  put-zeros a (suc n) m k h u = go (ℕ-discrete k a) (λ ne. put-zeros (a + 1) n (set m (pl a) 0) k (omega arith) (omega arith))
-    where
-      go : Dec (k ≡ a) → (k ≢ a → getD (put pl (a + 1) (replicate n 0) (set m (pl a) 0)) (pl k) 0 ≡ 0) → getD (put pl (a + 1) (replicate n 0) (set m (pl a) 0)) (pl k) 0 ≡ 0
-      go (yes e) r = put-zeros-stay (a + 1) n (set m (pl a) 0) (pl k) (set-zero m (pl a) (pl k) (λ ne. absurd (ne (ap pl e))))
-      go (no ne) r = r ne
+      put-agree (a + 1) bs (set m₁ (pl a) b) (set m₂ (pl a) b) p (length-set m₁ (pl a) b ∙ l ∙ sym (length-set m₂ (pl a) b)) (set-agree m₁ m₂ (pl a) b p l e)
 
   -- a part of what is read
   pub get-part : (n a k : ℕ) (m : List ℕ) → a + k ≤ n → get pl a k m ≡ part (get pl 0 n m) a k

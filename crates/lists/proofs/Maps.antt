@@ -10,7 +10,7 @@ use lib.ListN.{length, getD, set, length-set, List·getD-eq-default}
 use lib.Seq.{getD-set-same, getD-set-other, ext-getD}
 use borrow.Author.Tests.{eq-eqb, ne-eqb, lt-ltb, le-ltb}
 use Rattle.lists.specs.Choice.{choose}
-use Rattle.lists.specs.Places.{mapFrom, mapPlaces, placesFrom}
+use Rattle.lists.specs.Places.{mapFrom, mapPlaces}
 use Rattle.lists.proofs.Choice.{yes!, no! }
 
 -- an element after one was set
@@ -134,15 +134,3 @@ module _ {A : Type 0} (f : ℕ → A → A) (l : List A) where
   pub below-all : (i : ℕ) → length l ≤ i → mapBelow f i l ≡ mapPlaces f l
   unfolding mapBelow
   below-all i h = map-alike _ f l (λ k x b. yes! _ _ (lt-ltb k i (omega arith)))
-
--- places in order
-pub length-placesFrom : (f : ℕ → ℕ) (i n : ℕ) → length (placesFrom f i n) ≡ n
-unfolding placesFrom
-length-placesFrom f i zero = refl
-length-placesFrom f i (suc n) = ap suc (length-placesFrom f (i + 1) n)
-
-pub getD-placesFrom : (f : ℕ → ℕ) (i n k d : ℕ) → k < n → getD (placesFrom f i n) k d ≡ f (i + k)
-unfolding placesFrom
-getD-placesFrom f i zero k d h = absurd (omega arith)
-getD-placesFrom f i (suc n) zero d h = ap f (omega arith)
-getD-placesFrom f i (suc n) (suc k) d h = getD-placesFrom f (i + 1) n k d (omega arith) ∙ ap f (omega arith)

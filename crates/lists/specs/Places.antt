@@ -45,8 +45,3 @@ mapFrom f i (x ∷ xs) = f i x ∷ mapFrom f (i + 1) xs
 
 unfoldable pub mapPlaces : {A : Type 0} → (ℕ → A → A) → List A → List A
 mapPlaces f l = mapFrom f 0 l
-
--- f at each of n places from i, in rising order
-unfoldable pub placesFrom : (ℕ → ℕ) → ℕ → ℕ → List ℕ
-placesFrom f i zero = []
-placesFrom f i (suc n) = f i ∷ placesFrom f (i + 1) n

@@ -19,12 +19,12 @@ use Rattle.model.specs.declared.Entry.{Entry}
 use Rattle.model.specs.declared.Permit.{Permit}
 use Rattle.model.specs.declared.Space.{Space}
 use Rattle.model.specs.declared.Standing.{Standing}
-use Rattle.model.specs.declared.Standing.the-variants.{Unused, Valid, Revoked}
 use Rattle.model.specs.declared.State.{State}
-use Rattle.model.specs.Changes.{releasedFrom, released, revokedFrom, revoked, listOwner, releasedAll, vacated, unpermitted, loses, revokedAll, freed, blanked, withdrawn, resetTables}
+use Rattle.model.specs.Changes.{released, revoked, listOwner, releasedAll, vacated, unpermitted, loses, revokedAll, freed, blanked, withdrawn, resetTables}
 use Rattle.model.specs.Leaves.{flag}
 use Rattle.model.specs.Searches.{isOwned, isData}
 use Rattle.model.specs.Tables.{noSpace, unusedEntry, spaceAt, live, withSpaces, withPermits, withEntries, withCells}
+use Rattle.model.proofs.Reset.{released-revoked}
 use Rattle.closing.proofs.Ranges.{map-map}
 use Rattle.losses.specs.Looks.{namedSlot, lookPlace, revokedEntry}
 use Rattle.losses.proofs.Looks.{revoked-named}
@@ -75,15 +75,6 @@ entries-go f l t i x = map-go f l t i x unusedEntry
 pub ruleset looks = (look-inside, reset-one, entries-go)
 
 -- All entries: whether an entry was revoked before it is released makes no difference, and other guests lose all the guest's spaces.
-released-revoked : (t : ℕ → Bool) (e : Entry) → released (revoked t e) ≡ released e
-unfolding released releasedFrom revoked revokedFrom
-released-revoked t e = go (e .standing)
-  where
-    go : (x : Standing) → releasedFrom (revokedFrom t x) (e .sequence) ≡ releasedFrom x (e .sequence)
-    go Unused = refl
-    go (Valid u r) = choose-elim (λ y. releasedFrom y (e .sequence) ≡ releasedFrom (Valid u r) (e .sequence)) (t u) Revoked (Valid u r) (λ _. refl) (λ _. refl)
-    go Revoked = refl
-
 covered : (a b c : Bool) → (a ≡ true → c ≡ true) → either (both a b) (both a c) ≡ a
 unfolding either both
 covered true true c f = refl
