@@ -18,7 +18,7 @@ use Rattle.model.specs.Step.{scratchAfter, bufferAfter}
 use Rattle.model.specs.Verdict.{row, Verdict, refused, granted}
 use Rattle.model.proofs.Verdict.{judged}
 
--- the tables alone, nothing, the tables and frames: a new space's, or those of spaces that go; the lent buffer, or a space's bytes
+-- the tables alone; nothing; the tables and frames: a new space's, or those of spaces that go; the lent buffer; a space's bytes
 pub data Touch : Type 0 where
   tables : Touch
   nothing : Touch

@@ -10,7 +10,6 @@ use lib.ListN.{set}
 use borrow.Author.Tests.{leb-true}
 use Rattle.lists.specs.Choice.{choose, both}
 use Rattle.lists.proofs.Choice.{not-so, yes!, no!, both-left, both-right}
-use Rattle.model.specs.declared.Answer.{Answer}
 use Rattle.model.specs.declared.Answer.the-variants.{BadCaller, Limit}
 use Rattle.model.specs.declared.Caller.{Caller}
 use Rattle.model.specs.declared.Guest.{Guest}

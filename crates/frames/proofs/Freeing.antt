@@ -97,29 +97,32 @@ freed-inside ss F g u n size r =
 
 -- For search: the bytes of a guest's data spaces.
 module _ (ss : List Space) (g : ℕ) (m : List ℕ) where
-  -- scratch where the slots below u have been gone through
-  unfoldable pub ClearedBelow : ℕ → List ℕ → Type 0
-  ClearedBelow u a = a ≡ clearFrames (freedBelow ss (slotsOf (isData g) ss) u) m
+  abbrev gone : (slot : ℕ) → Bool
+  gone = slotsOf (isData g) ss
+
+  -- a is scratch where the slots below u have been gone through
+  unfoldable pub ClearedBelow : ℕ → (a : List ℕ) → Type 0
+  ClearedBelow u a = a ≡ clearFrames (freedBelow ss gone u) m
 
   pub data-start : ClearedBelow 0 m
   unfolding clearFrames filled ClearedBelow
-  data-start = freed-none ss (slotsOf (isData g) ss) 0 (λ p. p / 4096) m
+  data-start = freed-none ss gone 0 (λ p. p / 4096) m
 
   pub data-length : (a : List ℕ) (u : ℕ) → ClearedBelow u a → length a ≡ length m
   unfolding ClearedBelow
   data-length a u e = ap length e ∙ length-clearFrames _ m
 
-  pub data-fits : (a : List ℕ) (u n : ℕ) → n ≡ choose (isData g (spaceAt ss u)) (spaceAt ss u .pages) 0 → ClearedBelow u a → RunsInside (length m / 4096) ss
-      → spaceAt ss u .first * 4096 + n * 4096 ≤ length a
-  data-fits a u n size e r = omega (arith, data-length a u e, freed-inside ss (length m / 4096) g u n size r)
-
-  pub data-go : (a b : List ℕ) (u n : ℕ) → n ≡ choose (isData g (spaceAt ss u)) (spaceAt ss u .pages) 0 → ClearedBelow u a
-      → b ≡ clearFrames (inRun (spaceAt ss u .first) n) a → ClearedBelow (u + 1) b
-  unfolding clearFrames filled ClearedBelow slotsOf
-  data-go a b u n size e is = is ∙ freed-more ss (slotsOf (isData g) ss) 0 (λ p. p / 4096) m a u n e size
-
-  pub data-done : (a : List ℕ) (u : ℕ) → ClearedBelow u a → u ≤ 32 → 32 ≤ u → a ≡ clearFrames (freed ss ss (slotsOf (isData g) ss)) m
+  pub data-done : (a : List ℕ) (u : ℕ) → ClearedBelow u a → u ≤ 32 → 32 ≤ u → a ≡ clearFrames (freed ss ss gone) m
   unfolding ClearedBelow
-  data-done a u e l h = e ∙ ap (λ t. clearFrames t m) (freed-all ss (slotsOf (isData g) ss) u l h)
+  data-done a u e l h = e ∙ ap (λ t. clearFrames t m) (freed-all ss gone u l h)
+
+  -- one turn
+  module _ (a : List ℕ) (u n : ℕ) (size : n ≡ choose (isData g (spaceAt ss u)) (spaceAt ss u .pages) 0) (e : ClearedBelow u a) where
+    pub data-fits : RunsInside (length m / 4096) ss → spaceAt ss u .first * 4096 + n * 4096 ≤ length a
+    data-fits r = omega (arith, data-length a u e, freed-inside ss (length m / 4096) g u n size r)
+
+    pub data-go : (b : List ℕ) → b ≡ clearFrames (inRun (spaceAt ss u .first) n) a → ClearedBelow (u + 1) b
+    unfolding clearFrames filled ClearedBelow slotsOf
+    data-go b is = is ∙ freed-more ss gone 0 (λ p. p / 4096) m a u n e size
 
 pub ruleset clearing = (data-start, data-length, data-fits, data-go, data-done)

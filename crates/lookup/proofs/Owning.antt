@@ -13,10 +13,10 @@ use Rattle.model.specs.declared.Space.{Space}
 use Rattle.model.specs.declared.State.{State}
 use Rattle.model.specs.Calls.{owning}
 use Rattle.model.specs.Decision.{Decision, refuse, check}
-use Rattle.model.specs.Replies.{reply, replied}
+use Rattle.model.specs.Replies.{reply, Carried}
 use Rattle.model.specs.Searches.{slotOf}
 use Rattle.model.specs.Tables.{spaceAt}
-use Rattle.model.proofs.Rules.{check-yes, check-no}
+use Rattle.model.proofs.Rules.{check-yes, check-no, refused}
 use Rattle.lookup.specs.declared.Owned.{Owned}
 use Rattle.lookup.specs.declared.Owned.the-variants.{At, Refused}
 use Rattle.lookup.specs.Owned.{ownedAt, ownedSpace}
@@ -79,13 +79,12 @@ module _ (s : State) (g i : ℕ) (o : Owned) (is : o ≡ ownedSpace (s .spaces) 
   unfolding owning Told
   owning-stops a e = subst (Told (s .spaces) g i) (sym is ∙ e) (told (s .spaces) g i) d
 
--- for search: a call goes on, or is refused
-module _ (s : State) (g i : ℕ) (o : Owned) (is : o ≡ ownedSpace (s .spaces) g i) (x : Reply) (d : Decision) where
-  pub owning-yes : (u : ℕ) → o ≡ At u → x ≡ replied s d → x ≡ replied s (owning s g (slotOf (s .spaces) i) d)
-  owning-yes u e p = p ∙ ap (replied s) (sym (owning-passes s g i o is d u e))
+-- for search: a call is refused, or goes on
+module _ (s : State) (g i : ℕ) (o : Owned) (is : o ≡ ownedSpace (s .spaces) g i) (d : Decision) (m : List ℕ) where
+  pub owning-refused : (a : Answer) → o ≡ Refused a → Carried s (owning s g (slotOf (s .spaces) i) d) (reply a s) m m
+  owning-refused a e = refused s _ a m (owning-stops s g i o is d a e)
 
-  pub owning-no : (a : Answer) → o ≡ Refused a → x ≡ reply a s → x ≡ replied s (owning s g (slotOf (s .spaces) i) d)
-  unfolding replied
-  owning-no a e p = p ∙ ap (replied s) (sym (owning-stops s g i o is d a e))
+  pub owning-goes : (u : ℕ) (r : Reply) (m' : List ℕ) → o ≡ At u → Carried s d r m m' → Carried s (owning s g (slotOf (s .spaces) i) d) r m m'
+  owning-goes u r m' e p = rw (owning-passes s g i o is d u e) p
 
-pub ruleset settling = (owning-no, owning-yes)
+pub ruleset settling = (owning-refused, owning-goes)

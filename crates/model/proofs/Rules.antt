@@ -9,7 +9,7 @@ use Rattle.model.specs.Searches.{enrolled}
 use Rattle.model.specs.Tables.{guestPlace}
 use Rattle.model.proofs.Searches.{enrolled-guest}
 use mathlib.Core.Bool.{Bool, true, false}
-use mathlib.Core.Path.{_≡_, refl, sym, ap, _∙_}
+use mathlib.Core.Path.{_≡_, refl, _∙_}
 use Rattle.model.specs.declared.Answer.{Answer}
 use Rattle.model.specs.declared.Reply.{Reply}
 use Rattle.model.specs.declared.State.{State}
@@ -25,16 +25,7 @@ pub check-no : {b : Bool} (a : Answer) (d : Decision) → b ≡ false → check 
 unfolding check
 check-no a d e = rw e
 
-pub go-on : (x : Reply) (s : State) (b : Bool) (a : Answer) (d : Decision) → b ≡ true → x ≡ replied s d → x ≡ replied s (check b a d)
-go-on x s b a d e p = p ∙ ap (replied s) (sym (check-yes a d e))
-
-pub refuse-at : (s : State) (b : Bool) (a : Answer) (d : Decision) → b ≡ false → reply a s ≡ replied s (check b a d)
-unfolding replied
-refuse-at s b a d e = ap (replied s) (sym (check-no a d e))
-
-pub ruleset checks = (go-on, refuse-at)
-
--- the same where scratch is told too: a refusal leaves it
+-- a decision carried out: a refusal leaves the tables and scratch
 pub refused : (s : State) (d : Decision) (a : Answer) (m : List ℕ) → d ≡ refuse a → Carried s d (reply a s) m m
 unfolding replied scratchAfter
 refused s d a m e = rw e (record { reply = refl; scratch = refl })

@@ -5,7 +5,6 @@ use mathlib.Core.List.{List}
 use mathlib.Core.Path.{_≡_, sym, ap, _∙_}
 use lib.Dec.{eqb}
 use Rattle.lists.specs.Choice.{choose}
-use Rattle.model.specs.declared.Answer.{Answer}
 use Rattle.model.specs.declared.Answer.the-variants.{Done}
 use Rattle.model.specs.declared.Caller.{Caller}
 use Rattle.model.specs.declared.Cell.{Cell}
@@ -13,42 +12,30 @@ use Rattle.model.specs.declared.Change.the-variants.{DestroySpace}
 use Rattle.model.specs.declared.Entry.{Entry}
 use Rattle.model.specs.declared.Operation.the-variants.{Destroy, Reset}
 use Rattle.model.specs.declared.Permit.{Permit}
-use Rattle.model.specs.declared.Reply.{Reply}
 use Rattle.model.specs.declared.Space.{Space}
 use Rattle.model.specs.declared.State.{State}
 use Rattle.model.specs.Arguments.{arguments, checkAll}
-use Rattle.model.specs.Calls.{judge, enrols, goodCaller, owning, perform, destroy, reset}
+use Rattle.model.specs.Calls.{judge, enrols, goodCaller, perform, destroy, reset}
 use Rattle.model.specs.Changes.{vacated, unpermitted, freed, blanked, applied}
-use Rattle.model.specs.Decision.{Decision}
 use Rattle.model.specs.Leaves.{callerPlace, flag, inRun}
 use Rattle.model.specs.Names.{baseName}
 use Rattle.model.specs.Replies.{reply, replied, callOf, Carried}
 use Rattle.model.specs.Searches.{slotOf, isOwned, isData}
 use Rattle.model.specs.Step.{clearFrames, scratchAfter}
 use Rattle.model.specs.Tables.{spaceAt, withSpaces, withPermits, withEntries, withCells}
-use Rattle.model.proofs.Rules.{refused, goes, place-yes}
+use Rattle.model.proofs.Rules.{goes, place-yes}
 use Rattle.frames.specs.Runs.{slotsOf}
 use Rattle.closing.proofs.Freed.{freed-run}
 use Rattle.lookup.specs.declared.Owned.{Owned}
-use Rattle.lookup.specs.declared.Owned.the-variants.{At, Refused}
+use Rattle.lookup.specs.declared.Owned.the-variants.{At}
 use Rattle.lookup.specs.Owned.{ownedSpace}
-use Rattle.lookup.proofs.Owning.{owned-slot, owned-low, owning-passes, owning-stops}
+use Rattle.lookup.proofs.Owning.{owned-slot, owned-low, owning-goes}
 use Rattle.withdrawing.specs.Sets.{IsSet, entriesReset}
 use Rattle.withdrawing.proofs.Resetting.{all-reset}
 
 -- For search: the space in the slot is a primary.
 pub primary-found : (ss : List Space) (g i u n : ℕ) (o : Owned) (b : Bool) → o ≡ ownedSpace ss g i → o ≡ At u → b ≡ eqb (spaceAt ss u .name) n → b ≡ true → not (eqb (spaceAt ss (slotOf ss i) .name) n) ≡ false
 primary-found ss g i u n o b is to t y = rw (← owned-slot ss g i o u is to) (ap not (sym t ∙ y))
-
--- For search: the checks 5 and 6 refuse, or pass.
-module _ (s : State) (g i : ℕ) (o : Owned) (is : o ≡ ownedSpace (s .spaces) g i) (d : Decision) (m : List ℕ) where
-  pub owning-refused : (a : Answer) → o ≡ Refused a → Carried s (owning s g (slotOf (s .spaces) i) d) (reply a s) m m
-  owning-refused a e = refused s _ a m (owning-stops s g i o is d a e)
-
-  pub owning-goes : (u : ℕ) (r : Reply) (m' : List ℕ) → o ≡ At u → Carried s d r m m' → Carried s (owning s g (slotOf (s .spaces) i) d) r m m'
-  owning-goes u r m' e p = rw (owning-passes s g i o is d u e) p
-
-pub ruleset ownings = (owning-refused, owning-goes)
 
 module _ (s : State) (c : Caller) (at : ℕ) (e : at ≡ callerPlace (s .guests) (c .guest)) (low : at < 8) (m m' : List ℕ) where
   pub destroy-done : (i u : ℕ) (o : Owned) (b : Bool) (t : State) → o ≡ ownedSpace (s .spaces) (c .guest) i → o ≡ At u → b ≡ eqb (spaceAt (s .spaces) u .name) baseName → b ≡ false

@@ -21,18 +21,22 @@ pub blanked-length : (t : ℕ → Bool) (cs a : List Cell) (n : ℕ) → a ≡ b
 unfolding blanked
 blanked-length t cs a n e len = ap length e ∙ length-mapPlaces _ cs ∙ len
 
--- for search: each frame has one cell, at its place
+-- for search: a frame has one cell, at its place
 module _ (ss : List Space) (g : ℕ) (cs : List Cell) where
-  pub freed-start : cs ≡ blanked (freedBelow ss (slotsOf (isData g) ss) 0) cs
+  abbrev gone : (slot : ℕ) → Bool
+  gone = slotsOf (isData g) ss
+
+  pub freed-start : cs ≡ blanked (freedBelow ss gone 0) cs
   unfolding blanked filled
-  freed-start = freed-none ss (slotsOf (isData g) ss) noCell (λ f. f) cs
+  freed-start = freed-none ss gone noCell (λ f. f) cs
 
-  pub freed-go : (a b : List Cell) (u n f : ℕ) → n ≡ choose (isData g (spaceAt ss u)) (spaceAt ss u .pages) 0 → a ≡ blanked (freedBelow ss (slotsOf (isData g) ss) u) cs
-      → Ranged (λ c. noCell) (spaceAt ss u .first) f a b → f ≤ spaceAt ss u .first + n → spaceAt ss u .first + n ≤ f → b ≡ blanked (freedBelow ss (slotsOf (isData g) ss) (u + 1)) cs
+  pub freed-go : (a b : List Cell) (u n f : ℕ) → n ≡ choose (isData g (spaceAt ss u)) (spaceAt ss u .pages) 0 → a ≡ blanked (freedBelow ss gone u) cs
+      → Ranged (λ c. noCell) (spaceAt ss u .first) f a b → f ≤ spaceAt ss u .first + n → spaceAt ss u .first + n ≤ f
+      → b ≡ blanked (freedBelow ss gone (u + 1)) cs
   unfolding blanked filled slotsOf
-  freed-go a b u n f size e r l h = cells-done a b (spaceAt ss u .first) n f r l h ∙ freed-more ss (slotsOf (isData g) ss) noCell (λ f. f) cs a u n e size
+  freed-go a b u n f size e r l h = cells-done a b (spaceAt ss u .first) n f r l h ∙ freed-more ss gone noCell (λ f. f) cs a u n e size
 
-  pub freed-done : (b : List Cell) (u : ℕ) → b ≡ blanked (freedBelow ss (slotsOf (isData g) ss) u) cs → u ≤ 32 → 32 ≤ u → b ≡ blanked (freed ss ss (slotsOf (isData g) ss)) cs
-  freed-done b u e l h = e ∙ ap (λ t. blanked t cs) (freed-all ss (slotsOf (isData g) ss) u l h)
+  pub freed-done : (b : List Cell) (u : ℕ) → b ≡ blanked (freedBelow ss gone u) cs → u ≤ 32 → 32 ≤ u → b ≡ blanked (freed ss ss gone) cs
+  freed-done b u e l h = e ∙ ap (λ t. blanked t cs) (freed-all ss gone u l h)
 
 pub ruleset freeing = (freed-start, freed-go, freed-done)

@@ -5,8 +5,8 @@ use Rattle.model.specs.Arguments.{arguments, checkAll}
 use Rattle.model.specs.Calls.{judge, goodCaller, enrols, perform, destroy}
 use Rattle.model.proofs.Rules.{steps, places}
 use Rattle.frames.proofs.Inside.{runs-in-table, run-in-scratch}
-use Rattle.lookup.proofs.Owning.{owned-low}
-use Rattle.withdrawing.proofs.Done.{primary-found, ownings, destroy-done}
+use Rattle.lookup.proofs.Owning.{settling, owned-low}
+use Rattle.withdrawing.proofs.Done.{primary-found, destroy-done}
 use Rattle.withdrawing.proofs.destroy.Statement.{statement}
 use Rattle.withdrawing.proofs.destroy.Tie as tie
 
@@ -16,14 +16,14 @@ returns c = search (steps, places)
 
 returns-2 : tie.Need-returns-2
 unfolding judge goodCaller enrols choose arguments checkAll perform destroy
-returns-2 c = search (steps, places, ownings) depth 8
+returns-2 c = search (steps, places, settling) depth 8
 
 array-copy-out-x : tie.Need-array-copy-out-x
 array-copy-out-x c = search owned-low
 
 returns-3 : tie.Need-returns-3
 unfolding judge goodCaller enrols choose arguments checkAll perform destroy
-returns-3 c = search (steps, places, ownings, primary-found) depth 8
+returns-3 c = search (steps, places, settling, primary-found) depth 8
 
 clear-requires : tie.Need-clear-requires
 clear-requires c κs = search run-in-scratch
