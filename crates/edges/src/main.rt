@@ -1,9 +1,10 @@
-// The public face on what no session reaches: up to 512 frames, 32 spaces, the last identification, a free frame before the first
-// space. The program's arguments are lines as a session has them, each carried out on the tables and the scratch that the line
-// before it left; all of it is done twice, by `serve` alone and with FETCH, STORE, KEY and BLOCK by their own functions. Each line
-// is printed with the answer's number and value; the first and the last byte of the buffer, if it has one, which a fetch finds
-// filled with 170; and, after a bar each, frame, key and mark of every frame that has a key or a mark. A line that is no request
-// is a heading.
+// The public face on what no session reaches or shows: up to 512 frames, 32 spaces, the last identification, a free frame before
+// the first space, the bytes of free frames. The program's arguments are lines as a session has them, each carried out on the
+// tables and the scratch that the line before it left; all of it is done twice, by `serve` alone and with FETCH, STORE, KEY and
+// BLOCK by their own functions. Each line is printed with the answer's number and value; the first and the last byte of the
+// buffer, if it has one, which a fetch finds filled with 170; after a bar each, frame, key and mark of every frame that has a key
+// or a mark; and, after a tilde each, from which frame on the bytes were made zeros, made others or kept: those of the frames
+// before the first tilde, or of all, were kept. Scratch first holds 165 in every byte. A line that is no request is a heading.
 use model::Answer;
 use model::Call;
 use model::Cell;
@@ -51,6 +52,59 @@ fn told_cell(f: u32, c: Cell) {
 fn told_cells(s: State) {
     for f in 0..512u32 {
         told_cell(f, s.cells[f as usize]);
+    }
+}
+
+// What became of the bytes of one frame: 0 kept, 1 made zeros, 2 made others.
+fn change(before: &[u8], after: &[u8]) -> u8 {
+    if check::same(before, after) {
+        return 0;
+    }
+    let zeros = [0u8; 4096];
+    if check::same(after, &zeros) {
+        return 1;
+    }
+    2
+}
+
+fn change_of_frame(before: &[u8], after: &[u8], f: u32) -> u8 {
+    if 511 < f {
+        return 0;
+    }
+    let start = f as usize * 4096;
+    let end = start + 4096;
+    if before.len() < end {
+        return 0;
+    }
+    if after.len() < end {
+        return 0;
+    }
+    change(&before[start..end], &after[start..end])
+}
+
+fn told_change(f: u32, last: u8, new: u8) {
+    if new == last {
+        return;
+    }
+    io::write_all(1, b" ~");
+    print(f);
+    if new == 0 {
+        io::write_all(1, b" kept");
+        return;
+    }
+    if new == 1 {
+        io::write_all(1, b" zeros");
+        return;
+    }
+    io::write_all(1, b" others");
+}
+
+fn told_frames(before: &[u8], after: &[u8]) {
+    let mut last = 0u8;
+    for f in 0..512u32 {
+        let new = change_of_frame(before, after, f);
+        told_change(f, last, new);
+        last = new;
     }
     io::write_all(1, b"\n");
 }
@@ -132,7 +186,6 @@ fn begun(frames: u32) -> State {
 
 // Two headings alter the tables: nothing else leads there, or not in a run that is short enough.
 fn altered(mut s: State, heading: &[u8]) -> State {
-    io::write_all(1, b"\n");
     if check::same(heading, b"next identification 65535") {
         s.next = 65535;
         return s;
@@ -160,13 +213,20 @@ fn asked(
     }
 }
 
-fn line(s: State, scratch: &mut [u8], i: usize, own: bool) -> State {
+fn line_told(s: State, scratch: &mut [u8], i: usize, own: bool) -> State {
     let mut text = io::buffer();
     let mut bytes = [170u8; 257];
     let n = os::arg(i, &mut text);
     io::write_all(1, &text[..n]);
     let request = lines::read_line(&text[..n], &mut bytes);
     asked(s, scratch, request, &mut bytes, &text[..n], own)
+}
+
+fn line(s: State, scratch: &mut [u8; 2097152], i: usize, own: bool) -> State {
+    let before = *scratch;
+    let t = line_told(s, scratch, i, own);
+    told_frames(&before, scratch);
+    t
 }
 
 fn each_line(scratch: &mut [u8; 2097152], own: bool) {
@@ -179,10 +239,14 @@ fn each_line(scratch: &mut [u8; 2097152], own: bool) {
     }
 }
 
+fn run(own: bool) {
+    let mut scratch = [165u8; 2097152];
+    each_line(&mut scratch, own);
+}
+
 fn main() {
-    let mut scratch = [0u8; 2097152];
     io::write_all(1, b"== by serve\n");
-    each_line(&mut scratch, false);
+    run(false);
     io::write_all(1, b"== by their own functions\n");
-    each_line(&mut scratch, true);
+    run(true);
 }

@@ -1,13 +1,11 @@
 -- `edges::each_line` is safe and ends. Assumes nothing.
 use Prim.Native.Nat.{_-_, _<_}
-use mathlib.Core.Path.{_≡_}
 use borrow.Author.Needs.{needs}
-use lib.ListN.{length}
 use Rattle.edges.proofs.each_line.Statement.{statement}
 use Rattle.edges.proofs.each_line.Tie as tie
 
 abbrev Inv-loop : tie.InvT-loop
-Inv-loop scratch₀ own count s₀ i₀ scratch s i = (length scratch ≡ length scratch₀) × (count < 18446744073709551616)
+Inv-loop scratch₀ own count s₀ i₀ scratch s i = count < 18446744073709551616
 
 abbrev μ-loop : tie.MeasureT-loop
 μ-loop scratch₀ own count s₀ i₀ scratch s i = count - i

@@ -5,10 +5,10 @@ use Rattle.edges.proofs.told_cells.Statement.{statement}
 use Rattle.edges.proofs.told_cells.Tie as tie
 
 abbrev Inv-loop : tie.InvT-loop
-Inv-loop s f₀ t4 f = f ≤ 512
+Inv-loop s f₀ f = f ≤ 512
 
 abbrev μ-loop : tie.MeasureT-loop
-μ-loop s f₀ t4 f = 512 - f
+μ-loop s f₀ f = 512 - f
 
 pub told-cells-spec : {M : Type 1} → statement M
 told-cells-spec =
@@ -24,6 +24,4 @@ told-cells-spec =
     (λ c. search needs)
     (λ c. search needs)
     (λ c. search needs)
-    (λ c. search needs)
-    (λ c κs. search needs)
     (λ c. search needs))
