@@ -69,6 +69,25 @@ fn create(s: State, before: u64, room: usize) {
     told_scratch(&scratch);
 }
 
+fn destroy(s: State, before: u64, room: usize) {
+    let mut scratch = [FILLED; 32769];
+    if room <= 32769 {
+        told(
+            before,
+            spaces::destroy(s, &mut scratch[0..room], guest(1), 3),
+        );
+    }
+    told_scratch(&scratch);
+}
+
+fn reset(s: State, before: u64, room: usize) {
+    let mut scratch = [FILLED; 32769];
+    if room <= 32769 {
+        told(before, spaces::reset(s, &mut scratch[0..room], guest(1)));
+    }
+    told_scratch(&scratch);
+}
+
 fn store(s: State, room: usize) {
     let mut scratch = [FILLED; 32769];
     if room <= 32769 {
@@ -85,10 +104,9 @@ fn fetch(s: State, scratch: &[u8]) {
     }
 }
 
-// The calls between CREATE and FETCH.
+// The calls between DESTROY and FETCH.
 fn before_fetch(s: State, before: u64, scratch: &[u8]) {
     let c = guest(1);
-    told(before, spaces::destroy(s, scratch, c, 3));
     told(before, spaces::permit(s, scratch, c, 3, 2, Right::Write));
     told(before, spaces::isolate(s, scratch, c, 3));
     number(spaces::query(s, scratch, c, 1, TEMP));
@@ -98,10 +116,9 @@ fn before_fetch(s: State, before: u64, scratch: &[u8]) {
     told(before, spaces::mode(s, scratch, c, 1));
 }
 
-// Those behind STORE.
-fn behind_store(s: State, before: u64, scratch: &[u8]) {
+// Those behind RESET.
+fn behind_reset(s: State, before: u64, scratch: &[u8]) {
     let c = guest(1);
-    told(before, spaces::reset(s, scratch, c));
     told(before, spaces::key(s, scratch, c, 15));
     told(before, spaces::block(s, scratch, c, 3, 4095, 15, 1));
 }
@@ -112,10 +129,12 @@ pub(crate) fn all(s: State, room: usize) {
     if room <= 32769 {
         enrol(s, before, room);
         create(s, before, room);
+        destroy(s, before, room);
         before_fetch(s, before, &scratch[0..room]);
         fetch(s, &scratch[0..room]);
         store(s, room);
-        behind_store(s, before, &scratch[0..room]);
+        reset(s, before, room);
+        behind_reset(s, before, &scratch[0..room]);
     }
     io::write_all(1, b"\n");
 }

@@ -1,10 +1,10 @@
 // The public face on what no session reaches or shows: up to 512 frames, 32 spaces, the last identification, a free frame before
 // the first space, the bytes of free frames. The program's arguments are lines as a session has them, each carried out on the
-// tables and the scratch that the line before it left; all of it is done twice, by `serve` alone and with FETCH, STORE, KEY and
-// BLOCK by their own functions. Each line is printed with the answer's number and value; the first and the last byte of the
-// buffer, if it has one, which a fetch finds filled with 170; after a bar each, frame, key and mark of every frame that has a key
-// or a mark; and, after a tilde each, from which frame on the bytes were made zeros, made others or kept: those of the frames
-// before the first tilde, or of all, were kept. Scratch first holds 165 in every byte. A line that is no request is a heading.
+// tables and the scratch that the line before it left; all of it is done twice, by `serve` alone and with DESTROY, FETCH, STORE,
+// RESET, KEY and BLOCK by their own functions. Each line is printed with the answer's number and value; the first and the last
+// byte of the buffer, if it has one, which a fetch finds filled with 170; after a bar each, frame, key and mark of every frame
+// that has a key or a mark; and, after a tilde each, the frame from which on the bytes were made zeros, made others or kept: those
+// of the frames before the first tilde were kept. Scratch first holds 165 in every byte. A line that is no request is a heading.
 use model::Answer;
 use model::Call;
 use model::Cell;
@@ -121,6 +121,7 @@ fn by_itself(s: State, scratch: &mut [u8], call: Call, buffer: &mut [u8]) -> Rep
     let caller = call.caller;
     let operation = call.operation;
     match operation {
+        Operation::Destroy { id } => spaces::destroy(s, scratch, caller, id),
         Operation::Fetch { register, address } => {
             answered(
                 spaces::fetch(s, scratch, caller, register, address, buffer),
@@ -133,6 +134,7 @@ fn by_itself(s: State, scratch: &mut [u8], call: Call, buffer: &mut [u8]) -> Rep
                 s,
             )
         }
+        Operation::Reset => spaces::reset(s, scratch, caller),
         Operation::Key { key } => spaces::key(s, scratch, caller, key),
         Operation::Block {
             id,
@@ -213,18 +215,14 @@ fn asked(
     }
 }
 
-fn line_told(s: State, scratch: &mut [u8], i: usize, own: bool) -> State {
+fn line(s: State, scratch: &mut [u8; 2097152], i: usize, own: bool) -> State {
+    let before = *scratch;
     let mut text = io::buffer();
     let mut bytes = [170u8; 257];
     let n = os::arg(i, &mut text);
     io::write_all(1, &text[..n]);
     let request = lines::read_line(&text[..n], &mut bytes);
-    asked(s, scratch, request, &mut bytes, &text[..n], own)
-}
-
-fn line(s: State, scratch: &mut [u8; 2097152], i: usize, own: bool) -> State {
-    let before = *scratch;
-    let t = line_told(s, scratch, i, own);
+    let t = asked(s, scratch, request, &mut bytes, &text[..n], own);
     told_frames(&before, scratch);
     t
 }
