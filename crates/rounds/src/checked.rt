@@ -27,10 +27,6 @@ fn key_round(s: State, scratch: &[u8], call: u32, i: u32) -> u64 {
 // The calls that only read scratch, if they look at it at all.
 fn reading_round(s: State, scratch: &[u8], buffer: &mut [u8], call: u32, i: u32) -> u64 {
     let who = turn::caller(i);
-    if call == turn::DESTROY {
-        let r = spaces::destroy(s, scratch, who, turn::own_data(i));
-        return turn::tasted(r, i);
-    }
     if call == turn::PERMIT {
         let r = spaces::permit(
             s,
@@ -75,10 +71,6 @@ fn reading_round(s: State, scratch: &[u8], buffer: &mut [u8], call: u32, i: u32)
         let a = spaces::fetch(s, scratch, who, turn::register(i), turn::address(i), buffer);
         return turn::brought(a, buffer);
     }
-    if call == turn::RESET {
-        let r = spaces::reset(s, scratch, who);
-        return turn::tasted(r, i);
-    }
     if call == turn::SOUND {
         return sound::is_sound(s) as u64;
     }
@@ -102,6 +94,14 @@ fn writing_round(s: State, scratch: &mut [u8], bytes: &[u8], call: u32, size: u3
     }
     if call == turn::CREATE {
         let r = spaces::create(s, scratch, who, turn::NEW, size);
+        return turn::tasted(r, i);
+    }
+    if call == turn::DESTROY {
+        let r = spaces::destroy(s, scratch, who, turn::own_data(i));
+        return turn::tasted(r, i);
+    }
+    if call == turn::RESET {
+        let r = spaces::reset(s, scratch, who);
         return turn::tasted(r, i);
     }
     turn::told(spaces::store(s, scratch, who, turn::register(i), turn::address(i), bytes))

@@ -35,10 +35,6 @@ fn reading_round(s: State, scratch: &[u8], buffer: &mut [u8], call: u32, i: u32)
     requires { ⌜ (sound s ≡ true) × (length (now scratch) ≡ s .frames * 4096) ⌝ }
 {
     let who = turn::caller(i);
-    if call == turn::DESTROY {
-        let r = withdrawing::destroy(s, who, turn::own_data(i));
-        return turn::tasted(r, i);
-    }
     if call == turn::PERMIT {
         let r = rights::permit(s, who, turn::own(i), turn::other(i), turn::right(i));
         return turn::tasted(r, i);
@@ -70,10 +66,6 @@ fn reading_round(s: State, scratch: &[u8], buffer: &mut [u8], call: u32, i: u32)
         let a = access::fetch(s, scratch, who, turn::register(i), turn::address(i), buffer);
         return turn::brought(a, buffer);
     }
-    if call == turn::RESET {
-        let r = withdrawing::reset(s, who);
-        return turn::tasted(r, i);
-    }
     if call == turn::SOUND {
         return sound::is_sound(s) as u64;
     }
@@ -101,6 +93,14 @@ fn writing_round(s: State, scratch: &mut [u8], bytes: &[u8], call: u32, size: u3
     }
     if call == turn::CREATE {
         let r = creating::create(s, scratch, who, turn::NEW, size);
+        return turn::tasted(r, i);
+    }
+    if call == turn::DESTROY {
+        let r = withdrawing::destroy(s, scratch, who, turn::own_data(i));
+        return turn::tasted(r, i);
+    }
+    if call == turn::RESET {
+        let r = withdrawing::reset(s, scratch, who);
         return turn::tasted(r, i);
     }
     turn::told(access::store(s, scratch, who, turn::register(i), turn::address(i), bytes))

@@ -41,15 +41,15 @@ pub const BLOCK: u32 = 17;
 // SPACE4 and two blanks: a name that no guest has used yet.
 pub const NEW: u64 = 6003370060464529440;
 
-// ENROL, CREATE and STORE change scratch.
+// ENROL, CREATE, DESTROY, STORE and RESET change scratch.
 pub(crate) fn writes(call: u32) -> bool {
-    if call == ENROL {
-        return true;
+    match call {
+        ENROL => true,
+        CREATE => true,
+        DESTROY => true,
+        STORE => true,
+        _ => call == RESET,
     }
-    if call == CREATE {
-        return true;
-    }
-    call == STORE
 }
 
 pub(crate) fn caller(i: u32) -> Caller {
