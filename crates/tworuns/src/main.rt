@@ -1,5 +1,6 @@
 // Two runs of one list of calls through `serve`, which differ in a byte first held in space 3 and in the data of a store that
-// reaches it: the list of which isolation proofs `Instance` speaks. Only what guest 2 fetches from space 3 may differ.
+// reaches it: the list of which isolation proofs `Instance` speaks. Only what guest 2 fetches from space 3 may differ; once space 3
+// is destroyed, the bytes of its frame are the same too.
 use model::Call;
 use model::Caller;
 use model::Operation;
@@ -126,13 +127,23 @@ fn start() -> State {
     shared(spaces_made(&mut made_in), &scratch)
 }
 
+// The bytes of space 3's frame that were stored.
+fn told_frame(scratch: &[u8; 16384]) {
+    io::write_all(1, b"frame 2:");
+    print_byte(scratch[8192]);
+    print_byte(scratch[8193]);
+    io::write_all(1, b"\n");
+}
+
 // Guest 1 isolates space 3, and guest 2's fetch is refused; guest 1 destroys it.
 fn withdraw(before: State, scratch: &mut [u8; 16384]) -> State {
     io::write_all(1, b"ISOLATE by guest 1:");
     let a = ask(before, scratch, 1, Operation::Isolate { id: 3 });
     let b = fetch(a, scratch);
     io::write_all(1, b"DESTROY by guest 1:");
-    ask(b, scratch, 1, Operation::Destroy { id: 3 })
+    let c = ask(b, scratch, 1, Operation::Destroy { id: 3 });
+    told_frame(scratch);
+    c
 }
 
 // Guest 2 gets its frame in a space of its own, and fetches from there.
