@@ -215,6 +215,7 @@ fn asked(
     }
 }
 
+// One line, and what it did to each frame: scratch as it was before stands beside it, so that this takes 4 MB of stack.
 fn line(s: State, scratch: &mut [u8; 2097152], i: usize, own: bool) -> State {
     let before = *scratch;
     let mut text = io::buffer();

@@ -1,5 +1,5 @@
--- The frames of spaces that go: what a loop over the slots, one run a turn, has made of a list that has elements for frames, as cells or
--- bytes are. Assumes nothing.
+-- The frames of spaces that go: what a loop over the slots, one run a turn, has made of a list that has elements for frames, as cells
+-- or bytes are. Assumes nothing.
 use Prim.Native.Nat.{ℕ, _+_, _*_, _/_, _≤_}
 use mathlib.Core.Bool.{Bool, true, false}
 use mathlib.Core.List.{List}

@@ -10,7 +10,7 @@ ghost use Rattle.model.specs.Step.{clearFrames};
 ghost use Rattle.frames.specs.Runs.{RunsInside, slotsOf};
 use model::Space;
 
-// The frames of a run, as one part of scratch.
+// The frames of a run become zeros: they are one part of scratch, so that one fill does it.
 pub fn clear(scratch: &mut [u8], first: usize, pages: usize)
     requires { ⌜ first * 4096 + pages * 4096 ≤ length (now scratch) ⌝ }
     ensures { λ _. ⌜ now (scratch .exit) ≡ clearFrames (inRun first pages) (now (scratch .entry)) ⌝ }
@@ -29,7 +29,7 @@ pub fn freed_pages(x: Space, guest: u32) -> u16
     0
 }
 
-// The frames of a guest's data spaces, run by run.
+// The frames of a guest's data spaces become zeros, run by run.
 pub fn clear_data(scratch: &mut [u8], spaces: [Space; 32], guest: u32)
     requires { ⌜ RunsInside (length (now scratch) / 4096) spaces ⌝ }
     ensures { λ _. ⌜ now (scratch .exit) ≡ clearFrames (freed spaces spaces (slotsOf (isData guest) spaces)) (now (scratch .entry)) ⌝ }

@@ -17,7 +17,7 @@ use Rattle.model.specs.Sound.{FreeIn, Sound}
 use Rattle.model.specs.Step.{Machine, Ready, Issue, Outcome, decision, step, run, afterRun, scratchAfter}
 use Rattle.model.proofs.Addresses.{place-has}
 use Rattle.model.proofs.Clearing.{clears-at, frame-agree, frame-zeroed}
-use Rattle.model.proofs.Lawful.{lawful}
+use Rattle.model.proofs.Lawful.{lawful-step}
 use Rattle.model.proofs.Searches.{live-slot}
 use Rattle.model.proofs.Sound.{ready-kept, length-scratchAfter}
 use Rattle.isolation.specs.Freed.{ZeroOnceFreed, FreeThrough, KeptWhileFree, ZeroOnceFreedKept}
@@ -44,7 +44,7 @@ module _ (s : State) (d : Decision) (ok : Sound (after s d)) (b m : List ℕ) (l
 
   -- where it was not cleared it was free before
   free-before : cleared (d .effect) (p / 4096) ≡ false → FreeIn s (p / 4096)
-  free-before clean = outside-free s (p / 4096) (outside-before (λ _. true) s (length b) d law (p / 4096) (free-outside (λ _. true) t ok (p / 4096) free) clean)
+  free-before clean = outside-free (λ _. false) s (p / 4096) (outside-before (λ _. true) (λ _. false) s (length b) d law (p / 4096) (free-outside (λ _. true) t ok (p / 4096) free) clean)
 
 -- One call.
 module _ (m : Machine) (ready : Ready m) (i : Issue) (p : ℕ) (free : FreeIn (step m i .machine .tables) (p / 4096)) where
@@ -52,7 +52,7 @@ module _ (m : Machine) (ready : Ready m) (i : Issue) (p : ℕ) (free : FreeIn (s
   d = decision m i
 
   law : Lawful (m .tables) (length (i .buffer)) d
-  law = lawful (m .tables) (length (m .scratch)) (i .call) (length (i .buffer)) (ready .sound)
+  law = lawful-step m i ready
 
   step-free : getD (step m i .machine .scratch) p 0 ≡ choose (cleared (d .effect) (p / 4096)) 0 (getD (m .scratch) p 0)
   unfolding step

@@ -1,6 +1,6 @@
 -- What two runs have in common over the whole list, from `AllSameOutside` alone and not from how it was proved. Each law rests on
--- its own part of the claim, so that none can be left out of it: `answer` and `buffer`, `number` and `value`, `tables`, `bytes`, `free`,
--- and an outcome for each call. Assumes nothing.
+-- its own part of the claim, so that none can be left out of it: `answer` and `buffer`, `number` and `value`, `tables`, `bytes`,
+-- `free`, and an outcome for each call. Assumes nothing.
 use Prim.Native.Nat.{ℕ, suc}
 use mathlib.Core.List.{List, [], _∷_}
 use mathlib.Core.Path.{_≡_, refl, sym, ap, ap₂, _∙_}

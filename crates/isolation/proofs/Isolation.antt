@@ -1,6 +1,6 @@
 -- The paper's own claim of the first half, as an instance of the general one; and what it says of keys. Assumes nothing.
 use Prim.Native.Nat.{ℕ, _/_}
-use mathlib.Core.Bool.{Bool}
+use mathlib.Core.Bool.{Bool, false}
 use mathlib.Core.List.{List, [], _∷_}
 use mathlib.Core.Path.{refl, sym, ap}
 use lib.Dec.{eqb}
@@ -23,10 +23,14 @@ use Rattle.isolation.proofs.TwoRuns.{two-runs}
 abbrev just : ℕ → ℕ → Bool
 just x = eqb x
 
+-- the set of no frame
+abbrev nowhere : ℕ → Bool
+nowhere f = false
+
 -- scratch that is equal outside one live space
-outside-equal : (s : State) (u : ℕ) (m₁ m₂ : List ℕ) → Live (s .spaces) u → OutsideSpace s u m₁ m₂ → EqualOutside (just (spaceAt (s .spaces) u .id)) s m₁ m₂
+outside-equal : (s : State) (u : ℕ) (m₁ m₂ : List ℕ) → Live (s .spaces) u → OutsideSpace s u m₁ m₂ → EqualOutside (just (spaceAt (s .spaces) u .id)) nowhere s m₁ m₂
 outside-equal s u m₁ m₂ live o p out =
-    o .bytes p (λ a b e. out u live (eq-eqb (spaceAt (s .spaces) u .id) _ refl) (rw (← e) (place-has (s .spaces) (layout s) u a b)))
+    o .bytes p (λ a b e. out .live u live (eq-eqb (spaceAt (s .spaces) u .id) _ refl) (rw (← e) (place-has (s .spaces) (layout s) u a b)))
 
 -- the two lists as turns with that one set throughout
 turns : (id : ℕ) → (first second : List Issue) → List Turn
@@ -48,18 +52,18 @@ turns-varied x m (i ∷ is) (j ∷ js) v = (
   turns-varied x (step m i .machine) is js (v .1),
 )
 
-same-outside : (x : ℕ) (m₁ m₂ : Machine) (i j : Issue) → Ready (step m₁ i .machine) → SameCall (just x) m₁ m₂ i j → SameOutside x m₁ i (step m₁ i) (step m₂ j)
+same-outside : (x : ℕ) (m₁ m₂ : Machine) (i j : Issue) → Ready (step m₁ i .machine) → SameCall (just x) nowhere m₁ m₂ i j → SameOutside x m₁ i (step m₁ i) (step m₂ j)
 same-outside x m₁ m₂ i j ready c = record {
   number = c .number;
   value = c .value;
   answer = c .answer;
   tables = c .alike .tables;
-  bytes = λ u l ne. equal-live (just x) (step m₁ i .machine .tables) (ready .sound) u l (ne-eqb x _ (λ e. ne (sym e))) _ _ (c .alike .bytes);
+  bytes = λ u l ne. equal-live (just x) nowhere (step m₁ i .machine .tables) (ready .sound) u l (ne-eqb x _ (λ e. ne (sym e))) _ _ (c .alike .bytes);
   free = λ f free. frame-agree f _ _ (c .alike .room) (λ p e. c .alike .bytes p (free-outside (just x) (step m₁ i .machine .tables) (ready .sound) (p / 4096) (rw e free)));
   buffer = λ away. c .buffer (λ r. away (rw (← (eqb-true x (r .id) (r .inside))) at (r .reaches)));
 }
 
-all-same : (x : ℕ) (first second : List Issue) (m₁ m₂ : Machine) → Ready m₁ → StoresVaried x m₁ first second → SameRuns m₁ m₂ (turns x first second)
+all-same : (x : ℕ) (first second : List Issue) (m₁ m₂ : Machine) → Ready m₁ → StoresVaried x m₁ first second → SameRuns nowhere m₁ m₂ (turns x first second)
     → AllSameOutside x m₁ first (run m₁ first) (run m₂ second)
 unfolding turns SameRuns AllSameOutside StoresVaried run
 all-same x [] [] m₁ m₂ ready v r = tt
@@ -74,8 +78,8 @@ isolation s scratch₁ scratch₂ u first second ready live outside varied =
     let x = spaceAt (s .spaces) u .id in
     let m₁ : Machine = record { tables = s; scratch = scratch₁ } in
     let m₂ : Machine = record { tables = s; scratch = scratch₂ } in
-    let alike : Alike (just x) m₁ m₂ = record { tables = refl; room = outside .room; bytes = outside-equal s u scratch₁ scratch₂ live outside } in
-    all-same x first second m₁ m₂ ready varied (two-runs (just x) (turns x first second) m₁ m₂ ready alike (turns-varied x m₁ first second varied))
+    let alike : Alike (just x) nowhere m₁ m₂ = record { tables = refl; room = outside .room; bytes = outside-equal s u scratch₁ scratch₂ live outside } in
+    all-same x first second m₁ m₂ ready varied (two-runs (just x) nowhere (turns x first second) m₁ m₂ ready alike (turns-varied x m₁ first second varied))
 
 -- Keys are in the tables, and the tables are equal.
 all-same-keys : (x : ℕ) (is : List Issue) (os ps : List Outcome) (m : Machine) → AllSameOutside x m is os ps → AllSameKeys os ps

@@ -58,7 +58,7 @@ module _ (m : Machine) (ready : Ready m) (c : Caller) (r a : ℕ) (b : List ℕ)
       let same : u ≡ f .slot = sym (accessed-slot m ready (fetchOf c r a b) (decision m (fetchOf c r a b)) done r a false (λ v. fetch v a) enrolled-fetch refl found-fetch) ∙ slot-one m ready (fetchOf c r a b) _ x here f in
       let inside : Inside (m .tables) u a (length b) = record { live = reached-live (m .tables) (ready .sound) (c .guest) _ u (found-fetch .right) enrolled-fetch (found-fetch .reached); fits = found-fetch .inside } in
       ap (λ (d : Decision). outcome m (fetchOf c r a b) d .buffer) (found-fetch .is)
-      ∙ fetch-bytes (m .tables) (ready .sound) u a (length b) (m .scratch) inside
+      ∙ fetch-bytes (m .tables) u a (length b) (m .scratch) inside
       ∙ ap (λ v. part (bytesOf (m .tables) v (m .scratch)) a (length b)) same
 
 -- A store answered 0.

@@ -20,7 +20,7 @@ use Rattle.model.specs.Step.{Machine, Ready, Issue, decision, step, scratchAfte
 use Rattle.model.specs.Tables.{spaceAt}
 use Rattle.model.proofs.Addresses.{place-has}
 use Rattle.model.proofs.Clearing.{clears-at}
-use Rattle.model.proofs.Lawful.{lawful}
+use Rattle.model.proofs.Lawful.{lawful-step}
 use Rattle.model.proofs.Sound.{ready-kept, length-scratchAfter}
 use Rattle.isolation.specs.Reaches.{Reaches, ReachesIn}
 use Rattle.isolation.specs.TwoRuns.{Outside, EqualOutside, Alike, MayDiffer, Grows, Varied, SameCall, SameRuns, TwoRuns}
@@ -28,14 +28,14 @@ use Rattle.isolation.proofs.Outside.{outside-before, own-outside}
 use Rattle.isolation.proofs.Reaching.{touches, reaches-one}
 
 -- One decision on two scratch areas that agree outside X. `s` are the tables before it, `d` the decision.
-module _ (X : ℕ → Bool) (s : State) (d : Decision) (ok : Sound (after s d)) (b₁ b₂ m₁ m₂ : List ℕ) (law : Lawful s (length b₁) d)
-    (room : length m₁ ≡ length m₂) (long : length b₁ ≡ length b₂) (agree : EqualOutside X s m₁ m₂) where
+module _ (X L : ℕ → Bool) (s : State) (d : Decision) (ok : Sound (after s d)) (b₁ b₂ m₁ m₂ : List ℕ) (law : Lawful s (length b₁) d)
+    (room : length m₁ ≡ length m₂) (long : length b₁ ≡ length b₂) (agree : EqualOutside X L s m₁ m₂) where
   abbrev t : State
   t = after s d
 
   -- a place outside X after it that was not cleared agreed before
-  before : (p : ℕ) → Outside X t (p / 4096) → cleared (d .effect) (p / 4096) ≡ false → getD m₁ p 0 ≡ getD m₂ p 0
-  before p out clean = agree p (outside-before X s (length b₁) d law (p / 4096) out clean)
+  before : (p : ℕ) → Outside X L t (p / 4096) → cleared (d .effect) (p / 4096) ≡ false → getD m₁ p 0 ≡ getD m₂ p 0
+  before p out clean = agree p (outside-before X L s (length b₁) d law (p / 4096) out clean)
 
   -- R says that the call reaches a space of X: what it touches is the one space that it reaches
   abbrev Touched : ℕ → ℕ → Type 0
@@ -44,14 +44,14 @@ module _ (X : ℕ → Bool) (s : State) (d : Decision) (ok : Sound (after s d)) 
   module _ (R : Type 0) (reach : (u a : ℕ) → Touched u a → X (spaceAt (t .spaces) u .id) ≡ true → R)
       (only : (u a : ℕ) → Touched u a → R → X (spaceAt (t .spaces) u .id) ≡ true) (same : (R → ⊥) → b₁ ≡ b₂) where
     -- a store into X leaves every place outside X; any other stores the same bytes
-    store-bytes : (v a : ℕ) → d .effect ≡ store v a → Inside t v a (length b₁) → EqualOutside X t (put (placeOf (layout t) v) a b₁ m₁) (put (placeOf (layout t) v) a b₂ m₂)
+    store-bytes : (v a : ℕ) → d .effect ≡ store v a → Inside t v a (length b₁) → EqualOutside X L t (put (placeOf (layout t) v) a b₁ m₁) (put (placeOf (layout t) v) a b₂ m₂)
     store-bytes v a e i p out = ⊎-elim within beside (true-or-false (X (spaceAt (t .spaces) v .id)))
       where
         old : getD m₁ p 0 ≡ getD m₂ p 0
         old = before p out (ap (λ f. cleared f (p / 4096)) e)
 
         away : X (spaceAt (t .spaces) v .id) ≡ true → (k : ℕ) → k < a + length b₁ → p ≢ placeOf (layout t) v k
-        away x k h q = out v (i .live) x (rw q (place-has (t .spaces) (layout t) v k (omega (arith, i .fits))))
+        away x k h q = out .live v (i .live) x (rw q (place-has (t .spaces) (layout t) v k (omega (arith, i .fits))))
 
         within : X (spaceAt (t .spaces) v .id) ≡ true → getD (put (placeOf (layout t) v) a b₁ m₁) p 0 ≡ getD (put (placeOf (layout t) v) a b₂ m₂) p 0
         within x =
@@ -64,7 +64,7 @@ module _ (X : ℕ → Bool) (s : State) (d : Decision) (ok : Sound (after s d)) 
             put-agree (placeOf (layout t) v) a b₁ m₁ m₂ p room old
             ∙ ap (λ b. getD (put (placeOf (layout t) v) a b m₂) p 0) (same (λ r. true-false (only v a (inl e) r) n))
 
-    effect-bytes : (e : Effect) → d .effect ≡ e → EffectInside t (length b₁) e → EqualOutside X t (scratchAfter t e m₁ b₁) (scratchAfter t e m₂ b₂)
+    effect-bytes : (e : Effect) → d .effect ≡ e → EffectInside t (length b₁) e → EqualOutside X L t (scratchAfter t e m₁ b₁) (scratchAfter t e m₂ b₂)
     unfolding scratchAfter
     effect-bytes none e i p out = before p out (ap (λ f. cleared f (p / 4096)) e)
     effect-bytes (fetch v a) e i p out = before p out (ap (λ f. cleared f (p / 4096)) e)
@@ -82,10 +82,10 @@ module _ (X : ℕ → Bool) (s : State) (d : Decision) (ok : Sound (after s d)) 
         let n = not-so (X (spaceAt (t .spaces) v .id)) (λ x. away (reach v a (inr e) x)) in
         rw (← long)
         (get-agree (placeOf (layout t) v) a (length b₁) m₁ m₂ (λ k _ h.
-        before _ (own-outside X t ok v (i .live) n k (omega (arith, i .fits))) (ap (λ f. cleared f (placeOf (layout t) v k / 4096)) e)))
+        before _ (own-outside X L t ok v (i .live) n k (omega (arith, i .fits))) (ap (λ f. cleared f (placeOf (layout t) v k / 4096)) e)))
 
 -- One call.
-module _ (X : ℕ → Bool) (m₁ m₂ : Machine) (ready : Ready m₁) (alike : Alike X m₁ m₂) (i j : Issue) (may : MayDiffer X m₁ i j) where
+module _ (X L : ℕ → Bool) (m₁ m₂ : Machine) (ready : Ready m₁) (alike : Alike X L m₁ m₂) (i j : Issue) (may : MayDiffer X m₁ i j) where
   abbrev d : Decision
   d = decision m₁ i
 
@@ -106,10 +106,10 @@ module _ (X : ℕ → Bool) (m₁ m₂ : Machine) (ready : Ready m₁) (alike : 
   only : (u a : ℕ) → (d .effect ≡ store u a) ⊎ (d .effect ≡ fetch u a) → ReachesIn X m₁ i → X (spaceAt (after (m₁ .tables) d .spaces) u .id) ≡ true
   only u a k r = ap X (reaches-one m₁ ready i (spaceAt (after (m₁ .tables) d .spaces) u .id) (r .id) (touched-reach u a k) (r .reaches)) ∙ r .inside
 
-  same-call : SameCall X m₁ m₂ i j
+  same-call : SameCall X L m₁ m₂ i j
   unfolding step
   same-call =
-      let law = lawful (m₁ .tables) (length (m₁ .scratch)) (i .call) (length (i .buffer)) (ready .sound) in
+      let law = lawful-step m₁ i ready in
       record {
         number = ap (λ (x : Decision). number (x .answer)) same-decision;
         value = ap (λ (x : Decision). value (x .answer)) same-decision;
@@ -117,23 +117,23 @@ module _ (X : ℕ → Bool) (m₁ m₂ : Machine) (ready : Ready m₁) (alike : 
         alike = record {
           tables = ap₂ (λ (x : State) (y : Decision). after x y) (alike .tables) same-decision;
           room = length-scratchAfter _ (decision m₁ i .effect) (m₁ .scratch) (i .buffer) ∙ alike .room ∙ sym (length-scratchAfter _ (decision m₂ j .effect) (m₂ .scratch) (j .buffer));
-          bytes = rw (← same-decision, ← alike .tables) (effect-bytes X (m₁ .tables) d (after-ready .sound) (i .buffer) (j .buffer) (m₁ .scratch) (m₂ .scratch) law (alike .room) (may .lengths) (alike .bytes) (ReachesIn X m₁ i) reach only (may .same) (d .effect) refl (law .inside));
+          bytes = rw (← same-decision, ← alike .tables) (effect-bytes X L (m₁ .tables) d (after-ready .sound) (i .buffer) (j .buffer) (m₁ .scratch) (m₂ .scratch) law (alike .room) (may .lengths) (alike .bytes) (ReachesIn X m₁ i) reach only (may .same) (d .effect) refl (law .inside));
         };
-        buffer = λ away. rw (← same-decision, ← alike .tables) (effect-buffer X (m₁ .tables) d (after-ready .sound) (i .buffer) (j .buffer) (m₁ .scratch) (m₂ .scratch) law (alike .room) (may .lengths) (alike .bytes) (ReachesIn X m₁ i) reach only (may .same) (d .effect) refl (law .inside) away);
+        buffer = λ away. rw (← same-decision, ← alike .tables) (effect-buffer X L (m₁ .tables) d (after-ready .sound) (i .buffer) (j .buffer) (m₁ .scratch) (m₂ .scratch) law (alike .room) (may .lengths) (alike .bytes) (ReachesIn X m₁ i) reach only (may .same) (d .effect) refl (law .inside) away);
       }
 
 -- a larger set leaves less to agree
-alike-grown : (X Y : ℕ → Bool) (m₁ m₂ : Machine) → Grows X Y → Alike X m₁ m₂ → Alike Y m₁ m₂
-alike-grown X Y m₁ m₂ g a = record {
+alike-grown : (X Y L : ℕ → Bool) (m₁ m₂ : Machine) → Grows X Y → Alike X L m₁ m₂ → Alike Y L m₁ m₂
+alike-grown X Y L m₁ m₂ g a = record {
   tables = a .tables;
   room = a .room;
-  bytes = λ p out. a .bytes p (λ u l x. out u l (g (spaceAt (m₁ .tables .spaces) u .id) x));
+  bytes = λ p out. a .bytes p (record { live = λ u l x. out .live u l (g (spaceAt (m₁ .tables .spaces) u .id) x); free = out .free });
 }
 
 -- Every call of the list.
 pub two-runs : TwoRuns
 unfolding Varied SameRuns
-two-runs X [] m₁ m₂ ready alike v = tt
-two-runs X (t ∷ ts) m₁ m₂ ready alike v =
-    let here : SameCall (t .changed) m₁ m₂ (t .first) (t .second) = same-call (t .changed) m₁ m₂ ready (alike-grown X (t .changed) m₁ m₂ (v .0) alike) (t .first) (t .second) (v .1) in
-    (here, two-runs (t .changed) ts (step m₁ (t .first) .machine) (step m₂ (t .second) .machine) (ready-kept m₁ (t .first) ready) (here .alike) (v .2))
+two-runs X L [] m₁ m₂ ready alike v = tt
+two-runs X L (t ∷ ts) m₁ m₂ ready alike v =
+    let here : SameCall (t .changed) L m₁ m₂ (t .first) (t .second) = same-call (t .changed) L m₁ m₂ ready (alike-grown X (t .changed) L m₁ m₂ (v .0) alike) (t .first) (t .second) (v .1) in
+    (here, two-runs (t .changed) L ts (step m₁ (t .first) .machine) (step m₂ (t .second) .machine) (ready-kept m₁ (t .first) ready) (here .alike) (v .2))

@@ -1,8 +1,8 @@
 -- Demand 3's first half, "one claim about the whole list": two runs of it, which differ in the bytes of one space and in the data
--- of stores that reach it. First the general claim, for a set of changed spaces that may grow from call to call; then the paper's
--- own, for one space.
+-- of stores that reach it. First the general claim, for a set of changed spaces that may grow from call to call, and for frames that
+-- may differ as long as they are free; then the paper's own, for one space and no such frames.
 use Prim.Native.Nat.{ℕ, _/_, _<_}
-use mathlib.Core.Bool.{Bool, true}
+use mathlib.Core.Bool.{Bool, true, false}
 use mathlib.Core.List.{List, [], _∷_}
 use mathlib.Core.Logic.{_≢_}
 use mathlib.Core.Path.{_≡_}
@@ -17,19 +17,20 @@ use Rattle.model.specs.Step.{Machine, Ready, Issue, Outcome, step, run}
 use Rattle.model.specs.Tables.{spaceAt}
 use Rattle.isolation.specs.Reaches.{Reaches, ReachesIn}
 
--- no live space of the set X has the frame f: it is free, or one of another live space
-abbrev pub Outside : (ℕ → Bool) → State → (frame : ℕ) → Type 0
-Outside X s f = (u : ℕ) → Live (s .spaces) u → X (spaceAt (s .spaces) u .id) ≡ true → HasFrame (layout s) (s .spaces) u f → ⊥
+-- No live space of the set X has the frame f, and if f is free it is none of the frames L.
+pub record Outside (X L : ℕ → Bool) (s : State) (f : ℕ) : Type 0 where
+  pub live : (u : ℕ) → Live (s .spaces) u → X (spaceAt (s .spaces) u .id) ≡ true → HasFrame (layout s) (s .spaces) u f → ⊥
+  pub free : FreeIn s f → L f ≡ false
 
--- scratch is equal at every place outside the live spaces of X, in free frames too
-abbrev pub EqualOutside : (ℕ → Bool) → State → (scratch₁ scratch₂ : List ℕ) → Type 0
-EqualOutside X s m₁ m₂ = (p : ℕ) → Outside X s (p / frameSize) → getD m₁ p 0 ≡ getD m₂ p 0
+-- scratch is equal at every place outside the live spaces of X, in free frames too but for those of L
+abbrev pub EqualOutside : (X L : ℕ → Bool) → State → (scratch₁ scratch₂ : List ℕ) → Type 0
+EqualOutside X L s m₁ m₂ = (p : ℕ) → Outside X L s (p / frameSize) → getD m₁ p 0 ≡ getD m₂ p 0
 
--- two machines that differ in the bytes of live changed spaces alone
-pub record Alike (X : ℕ → Bool) (m₁ m₂ : Machine) : Type 0 where
+-- two machines that differ in the bytes of live changed spaces, and of frames of L that are free, and in nothing else
+pub record Alike (X L : ℕ → Bool) (m₁ m₂ : Machine) : Type 0 where
   pub tables : m₁ .tables ≡ m₂ .tables
   pub room : length (m₁ .scratch) ≡ length (m₂ .scratch)
-  pub bytes : EqualOutside X (m₁ .tables) (m₁ .scratch) (m₂ .scratch)
+  pub bytes : EqualOutside X L (m₁ .tables) (m₁ .scratch) (m₂ .scratch)
 
 -- one call in both runs, with the spaces that count as changed from it on
 pub record Turn : Type 0 where
@@ -53,21 +54,22 @@ Varied X m (t ∷ ts) = Grows X (t .changed) × MayDiffer (t .changed) m (t .fir
 -- "In both runs a call returns the same; equal after it are the tables, the bytes of each live space but that one, and a
 -- fetch's buffer unless that fetch reaches that space." A call returns its whole answer: the number and value that the paper
 -- speaks of, and of a refused argument its kind and place.
-pub record SameCall (X : ℕ → Bool) (m₁ m₂ : Machine) (i j : Issue) : Type 0 where
+pub record SameCall (X L : ℕ → Bool) (m₁ m₂ : Machine) (i j : Issue) : Type 0 where
   pub number : number (step m₁ i .answer) ≡ number (step m₂ j .answer)
   pub value : value (step m₁ i .answer) ≡ value (step m₂ j .answer)
   pub answer : step m₁ i .answer ≡ step m₂ j .answer
-  pub alike : Alike X (step m₁ i .machine) (step m₂ j .machine)
+  pub alike : Alike X L (step m₁ i .machine) (step m₂ j .machine)
   pub buffer : (ReachesIn X m₁ i → ⊥) → step m₁ i .buffer ≡ step m₂ j .buffer
 
 -- at every call of the list
-unfoldable pub SameRuns : Machine → Machine → List Turn → Type 0
-SameRuns m₁ m₂ [] = Unit {0}
-SameRuns m₁ m₂ (t ∷ ts) = SameCall (t .changed) m₁ m₂ (t .first) (t .second) × SameRuns (step m₁ (t .first) .machine) (step m₂ (t .second) .machine) ts
+unfoldable pub SameRuns : (L : ℕ → Bool) → Machine → Machine → List Turn → Type 0
+SameRuns L m₁ m₂ [] = Unit {0}
+SameRuns L m₁ m₂ (t ∷ ts) = SameCall (t .changed) L m₁ m₂ (t .first) (t .second) × SameRuns L (step m₁ (t .first) .machine) (step m₂ (t .second) .machine) ts
 
--- The general claim.
+-- The general claim. With no frames in L free frames agree throughout; with all frames in L nothing is asked of free frames, as a
+-- first scratch area may hold anything, and a new space agrees all the same.
 abbrev pub TwoRuns : Type 0
-TwoRuns = (X : ℕ → Bool) (ts : List Turn) (m₁ m₂ : Machine) → Ready m₁ → Alike X m₁ m₂ → Varied X m₁ ts → SameRuns m₁ m₂ ts
+TwoRuns = (X L : ℕ → Bool) (ts : List Turn) (m₁ m₂ : Machine) → Ready m₁ → Alike X L m₁ m₂ → Varied X m₁ ts → SameRuns L m₁ m₂ ts
 
 -- The paper's own claim. It is of any sound state with its scratch, any live space in it, and any list of calls, refused ones
 -- included, run twice. What may differ are the bytes first held in that space and, at the same length, the data of stores: "Data

@@ -1,5 +1,4 @@
--- Where the bytes of live spaces lie: inside scratch, and no two at one place. These two laws are all that anything else uses
--- of how pages are laid out. Assumes nothing.
+-- Where the bytes of live spaces lie: inside scratch, no two at one place, and each in a frame that its space has. Assumes nothing.
 use Rattle.model.specs.Tables.{spaceAt}
 use Rattle.model.specs.Lawful.{Covers}
 use Rattle.model.specs.declared.State.{State}

@@ -57,7 +57,8 @@ module _ (f : ℕ) where
       let b : k < 4096 = omega (arith, short m) in
       getD-part m (f * 4096) 4096 k 0 b ∙ h (f * 4096 + k) (omega arith) ∙ sym (getD-replicate 4096 k 0 0 b))
 
--- What a decision that clears frames does to any scratch m: the frames of which G holds are filled with zeros, and every byte of another frame stays
+-- What a decision that clears frames does to any scratch m: the frames of which G holds are filled with zeros, and every byte of
+-- another frame stays.
 pub record BytesGo (s : State) (d : Decision) (G : ℕ → Type 0) : Type 0 where
   pub gone : (m b : List ℕ) (p : ℕ) → G (p / 4096) → getD (scratchAfter (after s d) (d .effect) m b) p 0 ≡ 0
   pub kept : (m b : List ℕ) (p : ℕ) → (G (p / 4096) → ⊥) → getD (scratchAfter (after s d) (d .effect) m b) p 0 ≡ getD m p 0

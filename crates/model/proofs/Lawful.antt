@@ -7,7 +7,7 @@ use mathlib.Core.Logic.{_≢_, _⊎_, inl, inr, ⊎-elim}
 use mathlib.Core.Path.{_≡_, refl, ap, _∙_, sym}
 use native.Mathlib.Decide.{ℕ-discrete}
 use lib.Dec.{eqb}
-use lib.ListN.{set}
+use lib.ListN.{length, set}
 use lib.Seq.{getD-set-same, getD-set-other}
 use Rattle.lists.specs.Choice.{choose}
 use Rattle.lists.proofs.Choice.{true-false, not-so, true-or-false}
@@ -27,6 +27,7 @@ use Rattle.model.specs.Lawful.{SameSpace, Inside, cleared, Spares, Cover
 use Rattle.model.specs.Names.{baseName}
 use Rattle.model.specs.Searches.{enrolled, isOwned, isData, slotOf, freeSlot, freeRun}
 use Rattle.model.specs.Sound.{Live, Sound, HasFrame, Free}
+use Rattle.model.specs.Step.{Machine, Ready, Issue, decision}
 use Rattle.model.specs.Tables.{noSpace, spaceAt}
 use Rattle.model.specs.Verdict.{row, Verdict, refused, granted}
 use Rattle.model.proofs.Addresses.{page-live, covers-own}
@@ -44,17 +45,19 @@ module _ (s t : State) (fs : ℕ → Bool) (clean : (f : ℕ) → fs f ≡ false
   stays : (u : ℕ) → Live (s .spaces) u → SameSpace s t u
   stays u l = record { live = l; space = ap (λ x. spaceAt x u) same; frames = λ p. ap (λ x. frameOf x u p) same }
 
-  stays-spared : (u : ℕ) → Live (t .spaces) u → (SameSpace s t u × Spares t fs u) ⊎ Covers t fs u
+  stays-spared : (u : ℕ) → Live (t .spaces) u → (SameSpace s t u × Spares t fs u) ⊎ ((Live (s .spaces) u → ⊥) × Covers t fs u)
   stays-spared u l = inl (stays u (rw same at l), λ p _. clean (frameOf (layout t) u p))
 
 lawful-still : (s : State) (n : ℕ) (d : Decision) → after s d .spaces ≡ s .spaces → after s d .frames ≡ s .frames → d .effect ≡ none → Lawful s n d
-lawful-still s n d e f still = record {
-  frames = f;
-  kept = stays-spared s (after s d) (cleared (d .effect)) (λ k. ap (λ x. cleared x k) still) e;
-  left = λ u l. inl (stays s (after s d) (cleared (d .effect)) (λ k. ap (λ x. cleared x k) still) e u l);
-  idle = λ k _ _. ap (λ x. cleared x k) still;
-  inside = rw still tt;
-}
+lawful-still s n d e f still =
+    let clean : (k : ℕ) → cleared (d .effect) k ≡ false = λ k. ap (λ x. cleared x k) still in
+    record {
+      frames = f;
+      kept = stays-spared s (after s d) (cleared (d .effect)) clean e;
+      left = λ u l. inl (stays s (after s d) (cleared (d .effect)) clean e u l);
+      idle = λ k _ _. clean k;
+      inside = rw still tt;
+    }
 
 -- a made space is cleared, every other live slot is as before
 module _ (s : State) (c : Change) (g name pages n : ℕ) (d : Decision) (ok : Sound s) (same : applied s c .spaces ≡ set (s .spaces) (freeSlot (s .spaces)) (newSpace s g name pages))
@@ -114,8 +117,8 @@ module _ (s : State) (c : Change) (g name pages n : ℕ) (d : Decision) (ok : So
         inside = tt;
       })
     where
-      go : (u : ℕ) → Live (t .spaces) u → Dec (u ≡ slot) → (SameSpace s t u × Spares t frames u) ⊎ Covers t frames u
-      go u l (yes e) = inr (rw e (covers-own t slot))
+      go : (u : ℕ) → Live (t .spaces) u → Dec (u ≡ slot) → (SameSpace s t u × Spares t frames u) ⊎ ((Live (s .spaces) u → ⊥) × Covers t frames u)
+      go u l (yes e) = inr ((λ was. other u was e), rw e (covers-own t slot))
       go u l (no e) = let before : Live (s .spaces) u = rw (made-other u e) at l in inl (same-made u before e, spared u before)
 
 -- what withdrawing leaves live is as before, and of what it does not leave all frames are cleared
@@ -142,7 +145,7 @@ module _ (s : State) (c : Change) (gone closed : ℕ → Bool) (n : ℕ) (ok : S
   lawful-withdrawn v = record {
     frames = head;
     kept = λ u l. let w = withdrawn-live s gone closed u (rw same at l) in inl (withdrawn-stays u (w .1) (w .0), stays-apart u (w .1) (w .0));
-    left = λ u l. ⊎-elim (λ y. inr (gone-covered u l y)) (λ k. inl (withdrawn-stays u l k)) (true-or-false (gone u));
+    left = λ u l. ⊎-elim (λ y. inr ((λ k. true-false y (withdrawn-live s gone closed u (rw same at k) .0)), gone-covered u l y)) (λ k. inl (withdrawn-stays u l k)) (true-or-false (gone u));
     idle = λ f free _. not-so _ (λ y.
         let (u, b, (_, (p, h, e))) = d-freed (layout s) (s .spaces) gone f .to y in
         free u b (page-live s ok u p h) (p, h, e));
@@ -190,3 +193,7 @@ lawful s m k n ok = go (verdict s m k n)
     go : Verdict (row (k .operation)) (Granted s m k n) (decide s m k n) → Lawful s n (decide s m k n)
     go (refused r) = rw (r .is) (lawful-still s n (refuse (r .answer)) refl refl refl)
     go (granted g) = lawful-performed s (k .caller) (k .operation) n (decide s m k n) ok (g .caller) (g .performed)
+
+-- of a call on a machine that is ready
+pub lawful-step : (m : Machine) (i : Issue) → Ready m → Lawful (m .tables) (length (i .buffer)) (decision m i)
+lawful-step m i ready = lawful (m .tables) (length (m .scratch)) (i .call) (length (i .buffer)) (ready .sound)

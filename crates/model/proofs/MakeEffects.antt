@@ -34,7 +34,7 @@ use Rattle.model.proofs.Effects.{by, Done, all, ok, guest}
 use Rattle.model.proofs.Entries.{same-guest}
 use Rattle.model.proofs.Runs.{d-has, lowest-run, lowest-slot}
 use Rattle.model.proofs.Searches.{named-none}
-use Rattle.model.proofs.Sound.{may-enrol, sound-kept}
+use Rattle.model.proofs.Sound.{may-enrol}
 use Rattle.model.proofs.SpaceBytes.{clear-own}
 
 -- ENROL and CREATE "take the lowest unused space slot and the lowest run of free frames, and fill it with zeros". "Value:
@@ -67,10 +67,10 @@ pub record CreateEffect (s : State) (g name pages : ℕ) (d : Decision) : Type 0
   pub rest : after s d ≡ withNext (withSpaces s (after s d .spaces)) (after s d .next)
 
 -- One law of making serves both.
-make-does : (s : State) (hs : List Guest) (g name pages : ℕ) (c : Change) (d : Decision) → Sound s → Sound (after s d)
+make-does : (s : State) (hs : List Guest) (g name pages : ℕ) (c : Change) (d : Decision) → Sound s
     → applied s c ≡ spaceAdded (withGuests s hs) (freeSlot (s .spaces)) (newSpace s g name pages) → Made s pages c d → MakeEffect s g name pages d
 unfolding newSpace value scratchAfter
-make-does s hs g name pages c d ok fine to m =
+make-does s hs g name pages c d ok to m =
     let u = freeSlot (s .spaces) in
     let x : Space = record { id = s .next; owner = g; name = name; first = freeRun s pages; pages = pages } in
     let is : spaceAt (set (s .spaces) u x) u ≡ x = getD-set-same (s .spaces) u x noSpace (omega (arith, ok .spaces .len, m .slot)) in
@@ -88,7 +88,7 @@ make-does s hs g name pages c d ok fine to m =
       value = refl;
       blank = λ p b. ap (λ (y : State). cellAt (y .cells) (freeRun s pages + p)) to ∙ ok .cells .free (freeRun s pages + p) (lowest-run s pages .found (m .run) .free p b);
       bytes = bytes-go s _ _ _ refl (d-has (layout (applied s c)) (applied s c .spaces) u);
-      zeros = λ k b. clear-own (applied s c) (rw (m .is) at fine) u k ∙ ap (λ (y : Space). replicate (y .pages * 4096) 0) there;
+      zeros = λ k b. clear-own (applied s c) u k ∙ ap (λ (y : Space). replicate (y .pages * 4096) 0) there;
     })
 
 module _ (s : State) (m : ℕ) (c : Caller) (n : ℕ) where
@@ -109,7 +109,7 @@ module _ (s : State) (m : ℕ) (c : Caller) (n : ℕ) where
       let y : Guest = newGuest x in
       let is : after s (by s m c n k) .guests ≡ set (s .guests) (guestPlace g) y = ap (λ (d : Decision). after s d .guests) (p .is) in
       record {
-        made = make-does s _ g baseName (x .pages) _ (by s m c n k) fine (sound-kept s m _ n fine) refl p;
+        made = make-does s _ g baseName (x .pages) _ (by s m c n k) fine refl p;
         guest = ap (λ gs. guestAt gs g) is ∙ getD-set-same (s .guests) (guestPlace g) y noGuest (omega (arith, fine .guests .len));
         others = λ h j ne. ap (λ gs. guestAt gs h) is ∙ getD-set-other (s .guests) (guestPlace g) (guestPlace h) y noGuest (λ e. ne (same-guest g h i j e));
         rest = rw (p .is) refl;
@@ -122,7 +122,7 @@ module _ (s : State) (m : ℕ) (c : Caller) (n : ℕ) where
       let p = all s m c n k done .performed in
       let fine = ok s m c n k done in
       record {
-        made = make-does s (s .guests) g name pages _ (by s m c n k) fine (sound-kept s m _ n fine) refl (p .made);
+        made = make-does s (s .guests) g name pages _ (by s m c n k) fine refl (p .made);
         new = λ u b l o e. named-none (s .spaces) g name u (p .new) b l o e;
         room = omega (arith, p .room, fine .guests .allowed g (all s m c n k done .caller));
         rest = rw (p .made .is) refl;

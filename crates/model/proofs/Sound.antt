@@ -27,7 +27,7 @@ use Rattle.model.specs.Tables.{guestAt}
 use Rattle.model.specs.Verdict.{row, Verdict, refused, granted}
 use Rattle.model.proofs.Blocks.{sound-block}
 use Rattle.model.proofs.Clearing.{length-clearFrames}
-use Rattle.model.proofs.Lawful.{lawful}
+use Rattle.model.proofs.Lawful.{lawful-step}
 use Rattle.model.proofs.Make.{sound-create, sound-enrol}
 use Rattle.model.proofs.Registers.{sound-load, sound-mode, sound-key}
 use Rattle.model.proofs.Reset.{sound-destroy, sound-isolate, sound-reset}
@@ -101,5 +101,5 @@ pub ready-kept : (m : Machine) (i : Issue) → Ready m → Ready (step m i .mach
 unfolding step
 ready-kept m i r = record {
   sound = sound-kept (m .tables) (length (m .scratch)) (i .call) (length (i .buffer)) (r .sound);
-  room = length-scratchAfter _ (decision m i .effect) (m .scratch) (i .buffer) ∙ r .room ∙ ap (λ f. f * 4096) (sym (lawful (m .tables) (length (m .scratch)) (i .call) (length (i .buffer)) (r .sound) .frames));
+  room = length-scratchAfter _ (decision m i .effect) (m .scratch) (i .buffer) ∙ r .room ∙ ap (λ f. f * 4096) (sym (lawful-step m i r .frames));
 }

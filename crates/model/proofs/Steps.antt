@@ -12,7 +12,7 @@ use Rattle.model.specs.Calls.{ready}
 use Rattle.model.specs.Decision.{Decision, after}
 use Rattle.model.specs.Step.{Machine, Issue, decision, step}
 use Rattle.model.specs.Verdict.{row, ownRow, listed}
-use Rattle.model.proofs.Lawful.{lawful}
+use Rattle.model.proofs.Lawful.{lawful-step}
 use Rattle.model.proofs.Refusals.{answer-listed, unready}
 use Rattle.model.proofs.Sound.{ready-to, length-scratchAfter}
 
@@ -47,7 +47,7 @@ unfolding step
 frames-kept m i = go (ready (m .tables) (length (m .scratch))) refl
   where
     go : (b : Bool) → ready (m .tables) (length (m .scratch)) ≡ b → after (m .tables) (decision m i) .frames ≡ m .tables .frames
-    go true e = lawful (m .tables) (length (m .scratch)) (i .call) (length (i .buffer)) (ready-to m e .sound) .frames
+    go true e = lawful-step m i (ready-to m e) .frames
     go false e = ap (λ (d : Decision). after (m .tables) d .frames) (unready (m .tables) (length (m .scratch)) (i .call) (length (i .buffer)) e)
 
 pub room-kept : (m : Machine) (i : Issue) → length (step m i .machine .scratch) ≡ length (m .scratch)

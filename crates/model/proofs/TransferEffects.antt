@@ -189,7 +189,7 @@ module _ (s : State) (m : ℕ) (c : Caller) (n : ℕ) where
         slot = p .slot;
         right = p .right;
         reaches = q;
-        buffer = λ x b len. ap (λ (d : Decision). bufferAfter (after s d) (d .effect) x b) (p .is) ∙ rw len (fetch-bytes s fine (p .slot) a n x (record { live = q .live; fits = q .inside }));
+        buffer = λ x b len. ap (λ (d : Decision). bufferAfter (after s d) (d .effect) x b) (p .is) ∙ rw len (fetch-bytes s (p .slot) a n x (record { live = q .live; fits = q .inside }));
         scratch = λ x b. ap (λ (d : Decision). scratchAfter (after s d) (d .effect) x b) (p .is);
         tables = ap (λ (d : Decision). after s d) (p .is);
       }

@@ -1,6 +1,6 @@
 -- What every call keeps to, as far as bytes are concerned. Each space live after it is unchanged and no frame of it was cleared, or
--- all its frames were cleared. Each space live before it is unchanged, or all its frames were cleared. A frame that is free before
--- and after it was not cleared. And what a fetch or store touches lies within a live space.
+-- it is new and all its frames were cleared. Each space live before it is unchanged, or it is gone and all its frames were cleared.
+-- A frame that is free before and after it was not cleared. And what a fetch or store touches lies within a live space.
 use Prim.Native.Nat.{ℕ, _+_, _≤_, _<_}
 use mathlib.Core.Bool.{Bool, true, false}
 use mathlib.Core.Logic.{_⊎_}
@@ -45,7 +45,7 @@ EffectInside t n (store u a) = Inside t u a n
 
 pub record Lawful (s : State) (n : ℕ) (d : Decision) : Type 0 where
   pub frames : after s d .frames ≡ s .frames
-  pub kept : (u : ℕ) → Live (after s d .spaces) u → (SameSpace s (after s d) u × Spares (after s d) (cleared (d .effect)) u) ⊎ Covers (after s d) (cleared (d .effect)) u
-  pub left : (u : ℕ) → Live (s .spaces) u → SameSpace s (after s d) u ⊎ Covers s (cleared (d .effect)) u
+  pub kept : (u : ℕ) → Live (after s d .spaces) u → (SameSpace s (after s d) u × Spares (after s d) (cleared (d .effect)) u) ⊎ ((Live (s .spaces) u → ⊥) × Covers (after s d) (cleared (d .effect)) u)
+  pub left : (u : ℕ) → Live (s .spaces) u → SameSpace s (after s d) u ⊎ ((Live (after s d .spaces) u → ⊥) × Covers s (cleared (d .effect)) u)
   pub idle : (f : ℕ) → FreeIn s f → FreeIn (after s d) f → cleared (d .effect) f ≡ false
   pub inside : EffectInside (after s d) n (d .effect)

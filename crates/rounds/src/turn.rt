@@ -48,7 +48,8 @@ pub(crate) fn writes(call: u32) -> bool {
         CREATE => true,
         DESTROY => true,
         STORE => true,
-        _ => call == RESET,
+        RESET => true,
+        _ => false,
     }
 }
 
