@@ -4,6 +4,7 @@ pub mod Unreached
 pub mod Outside
 pub mod TwoRuns
 pub mod Isolation
+pub mod FirstScratch
 pub mod Record
 pub mod RecordSet
 pub mod RecordMade

@@ -14,7 +14,8 @@ pub mod Agrees
 -- Records with and without a ground
 pub mod Records
 pub mod Kept
--- Free frames: "zero once freed" (paper 02, M-101)
+-- Free frames: "zero once freed", and what they first hold (paper 02, M-101)
 pub mod Freed
+pub mod FirstScratch
 -- What a guest is handed
 pub mod Handed
