@@ -75,11 +75,12 @@ pub fn destroy(s: State, scratch: &mut [u8], caller: Caller, id: u32) -> Reply
             state: s,
         };
     }
-    frames::clear(scratch, x.first as usize, x.pages as usize);
-    Reply {
+    let after = Reply {
         answer: Answer::Done { value: 0 },
         state: destroy_at(s, slot),
-    }
+    };
+    frames::clear(scratch, x.first as usize, x.pages as usize);
+    after
 }
 
 // The slots of all spaces of a guest.
@@ -177,12 +178,12 @@ pub fn reset(s: State, scratch: &mut [u8], caller: Caller) -> Reply
     let permits_after = unpermit(permits, closed);
     let entries_after = clear_lists(entries, caller.guest, closed);
     let cells_after = blank_frames(cells, spaces, caller.guest);
-    frames::clear_data(scratch, spaces, caller.guest);
     let mut t = s;
     t.spaces = spaces_after;
     t.permits = permits_after;
     t.entries = entries_after;
     t.cells = cells_after;
+    frames::clear_data(scratch, spaces, caller.guest);
     Reply {
         answer: Answer::Done { value: 0 },
         state: t,

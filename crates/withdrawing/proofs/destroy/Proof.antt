@@ -49,9 +49,9 @@ destroy-spec =
     array-copy-out-x
     (λ c κs. search needs)
     returns-3
+    destroy-at-requires
     (λ c. search needs)
     (λ c. search needs)
     clear-requires
-    destroy-at-requires
     (λ c. search needs)
     returns-4)
