@@ -46,6 +46,7 @@ fn destroy_at(mut s: State, slot: u8) -> State
 }
 
 // Every valid entry for the space becomes revoked, its permits vanish, and its frames, filled with zeros, are free for use again.
+// The tables come first: were scratch cleared before, the compiler would copy the state once more, as it can't tell them apart.
 pub fn destroy(s: State, scratch: &mut [u8], caller: Caller, id: u32) -> Reply
     requires { ⌜ (sound s ≡ true) × (length (now scratch) ≡ s .frames * 4096) ⌝ }
     ensures { λ r. ⌜ Carried s (judge s (callOf caller (Destroy id)) 0) r (now (scratch .entry)) (now (scratch .exit)) ⌝ }
