@@ -94,7 +94,7 @@ module _ (s : State) (k : Call) (key a n : ℕ) (w : Bool) (f : ℕ → Effect) 
       (read-check F (implies w (writes q)) Protection _
       ∙ ap (λ z. choose (implies w (writes q)) z (F (refuse Protection))) (read-check F (keyPermits s w key u a n) KeyProtection (accept 0 Keep (f u))))
 
--- the model's call, once the checks 2 and 3 have passed
+-- the model's call, once check 2 and those of its arguments have passed
 module _ (s : State) (c : Caller) (r a n : ℕ) (x : Translation) (h : Aimed s (c .guest) r x) (l : goodLength n ≡ true) where
   passed : (i j k : Answer) (d : Decision) → check (enrolled (s .guests) (c .guest)) i (check (leb r 15) j (check (goodLength n) k d)) ≡ d
   passed i j k d = check-yes _ _ (h .guest) ∙ check-yes _ _ (le-leb r 15 (h .register)) ∙ check-yes _ _ l

@@ -50,7 +50,7 @@ use Rattle.views.specs.Views.{cellPlace, viewOf}
 use Rattle.views.proofs.Cells.{cell-frame}
 use Rattle.views.proofs.Judged.{seen-enrolled, row-own, seen-guest}
 
--- guest g has passed check 2 and the register check 3, and the translation for it through register r is x
+-- guest g has passed check 2 and the register its own, and the translation for it through register r is x
 pub record Aimed (s : State) (g r : ℕ) (x : Translation) : Type 0 where
   pub guest : enrolled (s .guests) g ≡ true
   pub register : r ≤ 15

@@ -1,9 +1,38 @@
 // The paper's number and value of an answer.
 ghost use mathlib.Core.Path.{_≡_};
-ghost use Rattle.model.specs.Answers.{number as numberOf, value as valueOf};
+ghost use Rattle.model.specs.Answers.{limitNumber, namesArgument, number as numberOf, value as valueOf};
 use model::Answer;
+use model::Kind;
 
-// The cases stand in the order of their numbers.
+// The number for an argument outside its limits, by its kind. names_argument has the lowest and the highest of them.
+fn limit_number(kind: Kind) -> u32
+    ensures { λ r. ⌜ r ≡ limitNumber kind ⌝ }
+{
+    match kind {
+        Kind::Pages => 31,
+        Kind::Allowance => 32,
+        Kind::ListSize => 33,
+        Kind::Flag => 34,
+        Kind::Name => 35,
+        Kind::Register => 36,
+        Kind::Length => 37,
+        Kind::OtherGuest => 38,
+        Kind::Frames => 39,
+        Kind::Key => 40,
+    }
+}
+
+// Whether an answer of this number names an argument.
+pub fn names_argument(number: u32) -> bool
+    ensures { λ r. ⌜ r ≡ namesArgument number ⌝ }
+{
+    if number < 31 {
+        return false;
+    }
+    number <= 40
+}
+
+// The cases stand in the order of the enum.
 pub fn number(a: Answer) -> u32
     ensures { λ r. ⌜ r ≡ numberOf a ⌝ }
 {
@@ -11,7 +40,7 @@ pub fn number(a: Answer) -> u32
         Answer::Done { value: _ } => 0,
         Answer::Unsound => 1,
         Answer::BadCaller => 2,
-        Answer::Limit { kind: _, place: _ } => 3,
+        Answer::Limit { kind, place: _ } => limit_number(kind),
         Answer::NameTaken => 4,
         Answer::NoSpace => 5,
         Answer::NotOwner => 6,
@@ -34,12 +63,13 @@ pub fn number(a: Answer) -> u32
     }
 }
 
-// Only a call that was done has a value.
+// A call that was done has the value that its rule names, and an argument outside its limits its place.
 pub fn value(a: Answer) -> u32
     ensures { λ r. ⌜ r ≡ valueOf a ⌝ }
 {
     match a {
         Answer::Done { value } => value,
+        Answer::Limit { kind: _, place } => place as u32,
         _ => 0,
     }
 }

@@ -182,7 +182,7 @@ any-buffer frames (store u a) s m b b' l f = absurd f
 any-buffer buffer (store u a) s m b b' l f = absurd f
 any-buffer bytes (store u a) s m b b' l f = absurd l
 
--- The same of what the checks 2 and 3 and the call come to.
+-- The same of what check 2, the checks of the arguments and the call come to.
 module _ (s : State) (c : Caller) (k : Operation) where
   pub tables-kept : (n : ℕ) → LeavesTables (touch k) → after s (judge s (callOf c k) n) ≡ s
   tables-kept n l = same-tables (touch k) s _ l (touches s c k n .stays)

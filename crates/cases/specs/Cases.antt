@@ -1,5 +1,5 @@
 -- Paper 01, "Both sides of each edge": the cases marked P, and the case of the free frames; and cases of paper 02, M-100, "Storage
--- keys on each block". All are one table. A case is a start state and calls with what each must answer; each goes through the whole
+-- keys on each block", and M-102, "Tell us which field was wrong". All are one table. A case is a start state and calls with what each must answer; each goes through the whole
 -- decision, check 1 included.
 use Prim.Native.Nat.{ℕ, _*_}
 use mathlib.Core.Bool.{Bool, true}
@@ -9,7 +9,7 @@ use lib.Dec.{eqb}
 use Rattle.lists.specs.Choice.{both}
 use Rattle.model.specs.declared.Call.{Call}
 use Rattle.model.specs.declared.Operation.{Operation}
-use Rattle.model.specs.declared.Operation.the-variants.{Enrol, Create, Destroy, Add, Remove, Load, Mode, Fetch, Store, Reset, Key, Block}
+use Rattle.model.specs.declared.Operation.the-variants.{Enrol, Create, Destroy, Permit, Query, Add, Remove, Load, Mode, Fetch, Store, Reset, Key, Block}
 use Rattle.model.specs.declared.Right.the-variants.{Read, Write}
 use Rattle.model.specs.declared.Standing.the-variants.{Valid}
 use Rattle.model.specs.declared.State.{State}
@@ -117,13 +117,38 @@ cases =
     (holding 2 4 ∷ done (Block 1 0 5 0) ∷ done (Key 5) ∷ trial (Store 0 4095) 1 0 0 ∷ trial (Store 0 4095) 2 22 0 ∷ done (Block 1 4096 5 0) ∷ trial (Store 0 4095) 2 0 0 ∷ [])
     -- "all keys are 0 to 15"; "BLOCK then 5, 6, 17": no space 2, an address past the end, the last address
     ∷ case (emptyTables 8 1)
-    (holding 1 4 ∷ trial (Key 16) 0 3 0 ∷ trial (Block 1 0 16 0) 0 3 0 ∷ trial (Block 2 4096 15 1) 0 5 0 ∷ trial (Block 1 4096 15 1) 0 17 0 ∷ done (Block 1 4095 15 1) ∷ done (Key 15) ∷ [])
+    (holding 1 4 ∷ trial (Key 16) 0 40 2 ∷ trial (Block 1 0 16 0) 0 40 4 ∷ trial (Block 2 4096 15 1) 0 5 0 ∷ trial (Block 1 4096 15 1) 0 17 0 ∷ done (Block 1 4095 15 1) ∷ done (Key 15) ∷ [])
     -- "kept by RESET": the access key still refuses
     ∷ case (emptyTables 8 1) (holding 1 4 ∷ done (Key 5) ∷ done Reset ∷ trial (Store 0 0) 1 22 0 ∷ [])
     -- "New spaces .. have key 0, mark off", in frames that had a mark too
     ∷ case (emptyTables 8 1)
     (withToken 4 3
     (trial (Create nameA 1) 0 0 2 ∷ done (Block 2 0 3 1) ∷ done (Destroy 2) ∷ trial (Create nameA 1) 0 0 3 ∷ trial (Add 3 Read) 0 0 3 ∷ done (Key 5) ∷ trial (Fetch 1 0) 1 0 0 ∷ []))
+    -- Paper 02, M-102: "where several are wrong, the leftmost". ENROL with all wrong, then mended from the left, one by one
+    ∷ case (emptyTables 8 1)
+    (trial (Enrol (settingsOf 513 32 2 31 2)) 0 31 2
+    ∷ trial (Enrol (settingsOf 1 32 2 31 2)) 0 32 3
+    ∷ trial (Enrol (settingsOf 1 31 2 31 2)) 0 34 4
+    ∷ trial (Enrol (settingsOf 1 31 1 31 2)) 0 33 5
+    ∷ trial (Enrol (settingsOf 1 31 1 30 2)) 0 34 6
+    ∷ trial (Enrol (settingsOf 1 31 1 30 1)) 0 0 1
+    ∷ [])
+    -- "the length counts as last"
+    ∷ case (emptyTables 8 1) (holding 1 4 ∷ trial (Fetch 16 0) 257 36 2 ∷ trial (Store 16 0) 0 36 2 ∷ trial (Fetch 15 0) 258 37 4 ∷ trial (Store 15 0) 0 37 4 ∷ [])
+    -- the other calls, with all wrong that can be, and where two have limits then with the left one mended: 0 is no name, 9 no space
+    ∷ case (emptyTables 8 1)
+    (holding 1 4
+    ∷ trial (Create 0 513) 0 35 2
+    ∷ trial (Create nameA 513) 0 31 3
+    ∷ trial (Permit 9 1 Read) 0 38 3
+    ∷ trial (Query 9 0) 0 38 2
+    ∷ trial (Query 8 0) 0 35 3
+    ∷ trial (Load 16 0) 0 36 2
+    ∷ trial (Mode 2) 0 34 2
+    ∷ trial (Key 16) 0 40 2
+    ∷ trial (Block 9 4096 16 2) 0 40 4
+    ∷ trial (Block 9 4096 15 2) 0 34 5
+    ∷ [])
     ∷ []
 
 unfoldable pub allPass : List Case → Bool

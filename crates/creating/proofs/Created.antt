@@ -1,4 +1,4 @@
--- CREATE after the checks 2 and 3, and its own. Assumes nothing.
+-- CREATE after check 2 and those of its arguments, and its own. Assumes nothing.
 use Prim.Native.Nat.{ℕ, _-_, _≤_, _<_}
 use mathlib.Core.Bool.{Bool, false, not}
 use mathlib.Core.List.{List}

@@ -1,4 +1,4 @@
--- ENROL's checks 2 and 3, and what it has made where they passed. Assumes nothing.
+-- ENROL's check 2 and those of its arguments, and what it has made where they passed. Assumes nothing.
 use Prim.Native.Nat.{ℕ, _≤_, _<_}
 use mathlib.Core.Bool.{Bool, true, false, not}
 use mathlib.Core.List.{List}
@@ -59,7 +59,7 @@ module _ (gs : List Guest) (g at : ℕ) (is : at ≡ newPlace gs g) where
   pub new-owner : at < 8 → g ≤ 8
   new-owner l = guest-high (new-may l)
 
--- check 3, over the five tests
+-- the checks of the arguments, over the five tests
 abbrev wrong : (a b c d e : Bool) → ℕ
 wrong a b c d e = choose a (choose b (choose c (choose d (choose e 0 6) 5) 4) 3) 2
 

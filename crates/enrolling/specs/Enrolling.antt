@@ -1,4 +1,4 @@
--- ENROL's checks 2 and 3 as the code makes them: the place of a guest that may enrol, 8 for any other number; the place of the
+-- ENROL's check 2 and those of its arguments as the code makes them: the place of a guest that may enrol, 8 for any other number; the place of the
 -- first setting outside its limits, and the kind of the one at a place.
 use Prim.Native.Nat.{ℕ}
 use mathlib.Core.Bool.{not}

@@ -69,7 +69,7 @@ fn in_range(frames: u32) -> bool
     frames <= 512
 }
 
-// F outside 1 to 512 gives answer 3 and tables that are not sound.
+// F outside 1 to 512 gives answer 39 and tables that are not sound.
 pub fn fresh(frames: u32) -> Reply
     ensures { λ r. ⌜ r ≡ fresh frames ⌝ }
 {

@@ -2,7 +2,7 @@
 use Prim.Native.Nat.{ℕ, _≤_, _<_}
 use mathlib.Core.Bool.{true, false}
 use mathlib.Core.List.{List}
-use mathlib.Core.Path.{_≡_, ap}
+use mathlib.Core.Path.{_≡_, refl, ap}
 use native.Mathlib.Decide.{decLe}
 use native.Mathlib.Omega.{arith}
 use lib.Dec.{leb}
@@ -17,7 +17,7 @@ use Rattle.model.specs.declared.Kind.the-variants.{Frames}
 use Rattle.model.specs.declared.Permit.{Permit}
 use Rattle.model.specs.declared.Right.the-variants.{Read}
 use Rattle.model.specs.declared.Space.{Space}
-use Rattle.model.specs.Answers.{number}
+use Rattle.model.specs.Answers.{limitNumber, number, value}
 use Rattle.model.specs.Changes.{allows}
 use Rattle.model.specs.Frames.{Layout, layout}
 use Rattle.model.specs.Fresh.{emptyTables, framesInRange, fresh}
@@ -146,6 +146,7 @@ fresh-sound F low high = rw (fresh-done F low high) (sound-empty F low high)
 pub fresh-unsound : (F : ℕ) → (1 ≤ F → F ≤ 512 → ⊥) → Sound (fresh F .state) → ⊥
 fresh-unsound F out = rw (fresh-refused F out) zeros-unsound
 
-pub fresh-three : (F : ℕ) → (1 ≤ F → F ≤ 512 → ⊥) → number (fresh F .answer) ≡ 3
-unfolding number
-fresh-three F out = rw (fresh-refused F out)
+-- paper 02, M-102: "39 for F"; "For F, the value is 1."
+pub fresh-outside : (F : ℕ) → (1 ≤ F → F ≤ 512 → ⊥) → (number (fresh F .answer) ≡ 39) × (value (fresh F .answer) ≡ 1)
+unfolding number value limitNumber
+fresh-outside F out = rw (fresh-refused F out) (refl, refl)

@@ -1,5 +1,4 @@
--- Which answer a call gets: the number of the first of its checks that fails, in the paper's order; and the limits of its
--- arguments in the paper's numbers. Assumes nothing.
+-- Which answer a call gets: the number of the first of its checks that fails, in the paper's order. Assumes nothing.
 use Prim.Native.Nat.{ℕ, _+_, _≤_}
 use mathlib.Core.Bool.{Bool, true, false, not}
 use mathlib.Core.List.{List, [], _∷_}
@@ -25,7 +24,7 @@ use Rattle.model.specs.declared.Standing.the-variants.{Unused, Valid, Re
 use Rattle.model.specs.declared.State.{State}
 use Rattle.model.specs.declared.Translation.{Translation}
 use Rattle.model.specs.declared.Translation.the-variants.{Reached, Refused}
-use Rattle.model.specs.Answers.{number}
+use Rattle.model.specs.Answers.{limitNumber, number}
 use Rattle.model.specs.Arguments.{Argument, arguments, checkAll, goodPages}
 use Rattle.model.specs.Calls.{making, enrol, create, owning, destroy, permit, isolate, entitled, query, add, remove, load, mode, writes, accessAt, access, target, accessKey, fetching, storing, reset, setKey, block, perform, goodCaller, judge, ready, decide}
 use Rattle.model.specs.Decision.{Decision, Effect, check}
@@ -52,7 +51,7 @@ unfoldable pub firstFailed : List Check → ℕ
 firstFailed [] = 0
 firstFailed (c ∷ cs) = choose (c .passes) (firstFailed cs) (c .answer)
 
--- The checks after 1, 2 and 3, in the order of the call's row.
+-- The checks after 1, 2 and those of the arguments, in the order of the call's row.
 module _ (s : State) (g : ℕ) where
   -- ENROL and CREATE: "9, 11, 10"
   abbrev makingChecks : (pages : ℕ) → List Check
@@ -120,10 +119,10 @@ ownChecks s c (Key key) n = []
 ownChecks s c (Block id address key mark) n =
     owningChecks s (c .guest) id (test 17 (ltb address (sizeOf (s .spaces) (slotOf (s .spaces) id))) ∷ [])
 
--- "All check 1, then 2 first"; then 3 for each argument, from left to right
+-- "All check 1, then 2 first"; then each argument, from left to right
 abbrev limits : List Argument → List Check → List Check
 limits [] more = more
-limits (a ∷ rest) more = test 3 (a .fits) ∷ limits rest more
+limits (a ∷ rest) more = test (limitNumber (a .kind)) (a .fits) ∷ limits rest more
 
 abbrev pub checks : State → (scratch : ℕ) → Call → (buffer : ℕ) → List Check
 checks s m k n =
@@ -185,7 +184,7 @@ module _ (s : State) (g key t a n : ℕ) (storing : Bool) (f : ℕ → Effect) w
       through z l (Valid u r) e = pass 16 _ _ (either-right _ _ (ap (λ y. not (isRevoked y)) e)) (first-inside u r)
       through z l Revoked e = stop 16 _ _ (either-none _ _ z (ap (λ y. not (isRevoked y)) e))
 
--- Any call after the checks 1 to 3, and any call.
+-- Any call after the checks 1 and 2 and those of its arguments, and any call.
 module _ (s : State) (c : Caller) where
   first-performed : (k : Operation) (n : ℕ) → number (perform s c k n .answer) ≡ firstFailed (ownChecks s c k n)
   unfolding perform enrol create making owning destroy permit isolate query add remove load mode fetching storing reset target setKey block number
@@ -211,78 +210,3 @@ unfolding decide judge number
 answer-first s m k n =
     first _ Unsound _ _ (first _ BadCaller _ _
     (first-limits (arguments (s .guests) (k .caller) (k .operation) n) _ _ (first-performed s (k .caller) (k .operation) n)))
-
--- Answer 3: "an argument outside its limits", argument by argument in the paper's numbers.
-abbrev pub limitsOf : List Guest → Caller → Operation → (buffer : ℕ) → List (Type 0)
-limitsOf gs c (Enrol x) n =
-    ((1 ≤ x .pages) × (x .pages ≤ 512)) ∷ (x .allowance ≤ 31) ∷ (x .share ≤ 1) ∷ ((1 ≤ x .list) × (x .list ≤ 30)) ∷ (x .asf ≤ 1) ∷ []
-limitsOf gs c (Create name pages) n = NameText name ∷ ((1 ≤ pages) × (pages ≤ 512)) ∷ []
-limitsOf gs c (Destroy id) n = []
-limitsOf gs c (Permit id guest right) n = ((enrolled gs guest ≡ true) × (guest ≢ c .guest)) ∷ []
-limitsOf gs c (Isolate id) n = []
-limitsOf gs c (Query owner name) n = ((1 ≤ owner) × (owner ≤ 8)) ∷ NameText name ∷ []
-limitsOf gs c (Add id right) n = []
-limitsOf gs c (Remove token) n = []
-limitsOf gs c (Load register value) n = (register ≤ 15) ∷ []
-limitsOf gs c (Mode m) n = (m ≤ 1) ∷ []
-limitsOf gs c (Fetch register address) n = (register ≤ 15) ∷ ((1 ≤ n) × (n ≤ 256)) ∷ []
-limitsOf gs c (Store register address) n = (register ≤ 15) ∷ ((1 ≤ n) × (n ≤ 256)) ∷ []
-limitsOf gs c Reset n = []
-limitsOf gs c (Key key) n = (key ≤ 15) ∷ []
-limitsOf gs c (Block id address key mark) n = (key ≤ 15) ∷ (mark ≤ 1) ∷ []
-
--- each argument fits exactly where it is inside its limits
-data Decided : List Argument → List (Type 0) → Type 1 where
-  none : Decided [] []
-  more : {a : Argument} {args : List Argument} {P : Type 0} {Ps : List (Type 0)} → Decides (a .fits) P → Decided args Ps → Decided (a ∷ args) (P ∷ Ps)
-
-d-pages : (n : ℕ) → Decides (goodPages n) ((1 ≤ n) × (n ≤ 512))
-d-pages n = d-both (d-le 1 n) (d-le n 512)
-
-limits-decided : (gs : List Guest) (c : Caller) (k : Operation) (n : ℕ) → Decided (arguments gs c k n) (limitsOf gs c k n)
-unfolding arguments
-limits-decided gs c (Enrol x) n =
-    more (d-pages (x .pages)) (more (d-le (x .allowance) 31) (more (d-le (x .share) 1) (more (d-both (d-le 1 (x .list)) (d-le (x .list) 30)) (more (d-le (x .asf) 1) none))))
-limits-decided gs c (Create name pages) n = more (name-decides name) (more (d-pages pages) none)
-limits-decided gs c (Destroy id) n = none
-limits-decided gs c (Permit id guest right) n = more (d-both (d-is (enrolled gs guest)) (d-not (d-eq guest (c .guest)))) none
-limits-decided gs c (Isolate id) n = none
-limits-decided gs c (Query owner name) n = more (d-both (d-le 1 owner) (d-le owner 8)) (more (name-decides name) none)
-limits-decided gs c (Add id right) n = none
-limits-decided gs c (Remove token) n = none
-limits-decided gs c (Load register value) n = more (d-le register 15) none
-limits-decided gs c (Mode m) n = more (d-le m 1) none
-limits-decided gs c (Fetch register address) n = more (d-le register 15) (more (d-both (d-le 1 n) (d-le n 256)) none)
-limits-decided gs c (Store register address) n = more (d-le register 15) (more (d-both (d-le 1 n) (d-le n 256)) none)
-limits-decided gs c Reset n = none
-limits-decided gs c (Key key) n = more (d-le key 15) none
-limits-decided gs c (Block id address key mark) n = more (d-le key 15) (more (d-le mark 1) none)
-
--- outside them the answer is 3, and inside them the call's own checks decide
-abbrev pub All : List (Type 0) → Type 0
-All [] = Unit {0}
-All (P ∷ Ps) = P × All Ps
-
-limits-go : {args : List Argument} {Ps : List (Type 0)} → Decided args Ps → (cs : List Check) → All Ps → firstFailed cs ≡ firstFailed (limits args cs)
-limits-go none cs h = refl
-limits-go (more d ds) cs h = pass 3 _ _ (d .of (h .0)) (limits-go ds cs (h .1))
-
-limits-stop : {args : List Argument} {Ps : List (Type 0)} → Decided args Ps → (cs : List Check) → (All Ps → ⊥) → 3 ≡ firstFailed (limits args cs)
-limits-stop none cs out = absurd (out tt)
-limits-stop (more {a} {args} {P} d ds) cs out = go (a .fits) refl (λ h. limits-stop ds cs (λ rest. out (h, rest)))
-  where
-    go : (b : Bool) → a .fits ≡ b → (P → 3 ≡ firstFailed (limits args cs)) → 3 ≡ firstFailed (limits (a ∷ args) cs)
-    go true e f = pass 3 _ _ e (f (d .to e))
-    go false e f = stop 3 _ _ e
-
-module _ (s : State) (m : ℕ) (k : Call) (n : ℕ) (e1 : ready s m ≡ true) (e2 : goodCaller s (k .caller) (k .operation) ≡ true) where
-  abbrev Limits : Type 0
-  Limits = All (limitsOf (s .guests) (k .caller) (k .operation) n)
-
-  pub outside-limits : (Limits → ⊥) → number (decide s m k n .answer) ≡ 3
-  outside-limits out =
-      answer-first s m k n ∙ sym (pass 1 _ _ e1 (pass 2 _ _ e2 (limits-stop (limits-decided (s .guests) (k .caller) (k .operation) n) _ out)))
-
-  pub inside-limits : Limits → number (decide s m k n .answer) ≡ firstFailed (ownChecks s (k .caller) (k .operation) n)
-  inside-limits fit =
-      answer-first s m k n ∙ sym (pass 1 _ _ e1 (pass 2 _ _ e2 (limits-go (limits-decided (s .guests) (k .caller) (k .operation) n) _ fit)))

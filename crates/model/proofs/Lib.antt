@@ -29,6 +29,7 @@ pub mod Promise
 pub mod Types
 pub mod Classes
 pub mod Guards
+pub mod Limits
 pub mod Effects
 pub mod MakeEffects
 pub mod WithdrawEffects

@@ -5,16 +5,18 @@ use mathlib.Core.Logic.{_≢_}
 use mathlib.Core.Path.{_≡_, refl, sym, ap, _∙_}
 use lib.ListN.{length}
 use borrow.Author.Tests.{eq-eqb}
-use Rattle.lists.specs.Choice.{either}
+use Rattle.lists.specs.Choice.{both, either}
 use Rattle.lists.proofs.Choice.{true-false}
 use Rattle.model.specs.declared.Answer.{Answer}
 use Rattle.model.specs.declared.Answer.the-variants.{Done, Unsound, BadCaller, Limit, NameTaken, NoSpace, NotOwner, NoSharing, AllowanceUsed, SlotsUsed, NoRun, NoIdentification, NotPermitted, ListFull, AletSpecification, AlenTranslation, AddressingCapability, Addressing, Protection, SpecialOperation, PrimarySpace, LineNotRead, KeyProtection}
 use Rattle.model.specs.declared.Call.{Call}
 use Rattle.model.specs.declared.Caller.{Caller}
+use Rattle.model.specs.declared.Kind.{Kind}
+use Rattle.model.specs.declared.Kind.the-variants.{Pages, Allowance, ListSize, Flag, Name, Register, Length, OtherGuest, Frames, Key as AnyKey}
 use Rattle.model.specs.declared.Operation.{Operation}
 use Rattle.model.specs.declared.Operation.the-variants.{Enrol, Create, Destroy, Permit, Isolate, Query, Add, Remove, Load, Mode, Fetch, Store, Reset, Key, Block}
 use Rattle.model.specs.declared.State.{State}
-use Rattle.model.specs.Answers.{number, value}
+use Rattle.model.specs.Answers.{limitNumber, namesArgument, number, value}
 use Rattle.model.specs.Calls.{decide, ready}
 use Rattle.model.specs.Decision.{Decision, refuse, check}
 use Rattle.model.specs.Granted.{Performed, Granted}
@@ -71,38 +73,52 @@ module _ (s : State) (m : ℕ) (k : Call) (n : ℕ) where
   unfolding decide check
   unready e = rw e
 
--- a refusal's value
-pub refused-value : (a : Answer) → number a ≢ 0 → value a ≡ 0
+-- an argument outside its limits has one of the numbers 31 to 40
+argument-named : (k : Kind) → namesArgument (limitNumber k) ≡ true
+unfolding limitNumber namesArgument both
+argument-named Pages = refl
+argument-named Allowance = refl
+argument-named ListSize = refl
+argument-named Flag = refl
+argument-named Name = refl
+argument-named Register = refl
+argument-named Length = refl
+argument-named OtherGuest = refl
+argument-named Frames = refl
+argument-named AnyKey = refl
+
+-- a refusal's value, unless it names an argument
+pub refused-value : (a : Answer) → number a ≢ 0 → namesArgument (number a) ≡ false → value a ≡ 0
 unfolding number value
-refused-value (Done v) e = absurd (e refl)
-refused-value Unsound e = refl
-refused-value BadCaller e = refl
-refused-value (Limit k p) e = refl
-refused-value NameTaken e = refl
-refused-value NoSpace e = refl
-refused-value NotOwner e = refl
-refused-value NoSharing e = refl
-refused-value AllowanceUsed e = refl
-refused-value SlotsUsed e = refl
-refused-value NoRun e = refl
-refused-value NoIdentification e = refl
-refused-value NotPermitted e = refl
-refused-value ListFull e = refl
-refused-value AletSpecification e = refl
-refused-value AlenTranslation e = refl
-refused-value AddressingCapability e = refl
-refused-value Addressing e = refl
-refused-value Protection e = refl
-refused-value SpecialOperation e = refl
-refused-value PrimarySpace e = refl
-refused-value LineNotRead e = refl
-refused-value KeyProtection e = refl
+refused-value (Done v) e f = absurd (e refl)
+refused-value Unsound e f = refl
+refused-value BadCaller e f = refl
+refused-value (Limit k p) e f = true-false (argument-named k) f
+refused-value NameTaken e f = refl
+refused-value NoSpace e f = refl
+refused-value NotOwner e f = refl
+refused-value NoSharing e f = refl
+refused-value AllowanceUsed e f = refl
+refused-value SlotsUsed e f = refl
+refused-value NoRun e f = refl
+refused-value NoIdentification e f = refl
+refused-value NotPermitted e f = refl
+refused-value ListFull e f = refl
+refused-value AletSpecification e f = refl
+refused-value AlenTranslation e f = refl
+refused-value AddressingCapability e f = refl
+refused-value Addressing e f = refl
+refused-value Protection e f = refl
+refused-value SpecialOperation e f = refl
+refused-value PrimarySpace e f = refl
+refused-value LineNotRead e f = refl
+refused-value KeyProtection e f = refl
 
 -- "Every refusal of a call, later numbers included, changes no table, no scratch byte and no caller's buffer"
 pub record Unchanged (m : Machine) (i : Issue) : Type 0 where
   pub machine : step m i .machine ≡ m
   pub buffer : step m i .buffer ≡ i .buffer
-  pub value : value (step m i .answer) ≡ 0
+  pub value : namesArgument (number (step m i .answer)) ≡ false → value (step m i .answer) ≡ 0
 
 pub refused-unchanged : (m : Machine) (i : Issue) → number (step m i .answer) ≢ 0 → Unchanged m i
 unfolding step scratchAfter bufferAfter

@@ -43,7 +43,7 @@ may-enrol s g e =
     let r = both-left (both (leb 1 g) (leb g 8)) _ e in
     (record { low = leb-true 1 g (both-left (leb 1 g) (leb g 8) r); high = leb-true g 8 (both-right (leb 1 g) (leb g 8) r) }, not-to _ (both-right (both (leb 1 g) (leb g 8)) _ e))
 
--- a done call, by what its checks 2 and 3 and its own have established
+-- a done call, by what check 2, the checks of its arguments and its own have established
 performed-sound : (s : State) (c : Caller) (k : Operation) (n : ℕ) (d : Decision) → Sound s → goodCaller s c k ≡ true → AllFit (arguments (s .guests) c k n) → Performed s c k n d → Sound (after s d)
 unfolding goodCaller enrols choose arguments AllFit Performed
 performed-sound s c (Enrol x) n d ok e fit p =

@@ -14,6 +14,8 @@ use Rattle.model.specs.declared.Call.{Call}
 use Rattle.model.specs.declared.Caller.{Caller}
 use Rattle.model.specs.declared.Change.{Change}
 use Rattle.model.specs.declared.Change.the-variants.{Keep}
+use Rattle.model.specs.declared.Kind.{Kind}
+use Rattle.model.specs.declared.Kind.the-variants.{Pages, Allowance, ListSize, Flag, Name, Register, Length, OtherGuest, Frames, Key as AnyKey}
 use Rattle.model.specs.declared.Operation.{Operation}
 use Rattle.model.specs.declared.Operation.the-variants.{Enrol, Create, Destroy, Permit, Isolate, Query, Add, Remove, Load, Mode, Fetch, Store, Reset, Key, Block}
 use Rattle.model.specs.declared.Right.{Right}
@@ -23,7 +25,7 @@ use Rattle.model.specs.declared.Standing.the-variants.{Unused, Valid, Re
 use Rattle.model.specs.declared.State.{State}
 use Rattle.model.specs.declared.Translation.{Translation}
 use Rattle.model.specs.declared.Translation.the-variants.{Reached, Refused}
-use Rattle.model.specs.Answers.{number}
+use Rattle.model.specs.Answers.{limitNumber, number}
 use Rattle.model.specs.Arguments.{Argument, arguments, checkAll}
 use Rattle.model.specs.Calls.{making, enrol, create, owning, destroy, permit, isolate, entitled, query, add, remove, load, mode, writes, accessAt, access, target, accessKey, fetching, storing, reset, setKey, block, perform, goodCaller, judge, ready, decide}
 use Rattle.model.specs.Decision.{Decision, Effect, fetch, store, refuse, accept, check}
@@ -48,23 +50,32 @@ pub verdict-map : {row : List ℕ} {P Q : Decision → Type 0} {d : Decision} �
 verdict-map f (refused r) = refused r
 verdict-map f (granted p) = granted (f p)
 
--- the arguments' checks answer 3, where there are any
-abbrev Lists3 : List Argument → List ℕ → Type 0
-Lists3 [] row = Unit {0}
-Lists3 (a ∷ more) row = listed 3 row ≡ true
+-- whether the row has the number of each argument's kind
+abbrev listsKinds : List Argument → List ℕ → Bool
+listsKinds [] row = true
+listsKinds (a ∷ more) row = both (listed (limitNumber (a .kind)) row) (listsKinds more row)
 
-check-all : (row : List ℕ) (Good : Decision → Type 0) (args : List Argument) (d : Decision) → Lists3 args row → (AllFit args → Verdict row Good d) → Verdict row Good (checkAll args d)
+not-done : (k : Kind) → eqb (limitNumber k) 0 ≡ false
+unfolding limitNumber
+not-done Pages = refl
+not-done Allowance = refl
+not-done ListSize = refl
+not-done Flag = refl
+not-done Name = refl
+not-done Register = refl
+not-done Length = refl
+not-done OtherGuest = refl
+not-done Frames = refl
+not-done AnyKey = refl
+
+check-all : (row : List ℕ) (Good : Decision → Type 0) (args : List Argument) (d : Decision) → listsKinds args row ≡ true → (AllFit args → Verdict row Good d) → Verdict row Good (checkAll args d)
 unfolding checkAll AllFit number
 check-all row Good [] d l k = k tt
 check-all row Good (a ∷ more) d l k =
-    check-verdict row Good (a .fits) (Limit (a .kind) (a .place)) (checkAll more d) refl l (λ e.
-    check-all row Good more d (rest more) (λ fit. k (e, fit)))
-  where
-    rest : (args : List Argument) → Lists3 args row
-    rest [] = tt
-    rest (b ∷ bs) = l
+    check-verdict row Good (a .fits) (Limit (a .kind) (a .place)) (checkAll more d) (not-done (a .kind)) (both-left _ _ l) (λ e.
+    check-all row Good more d (both-right (listed (limitNumber (a .kind)) row) _ l) (λ fit. k (e, fit)))
 
--- The calls after the checks 1 to 3.
+-- The calls after the checks 1 and 2 and those of the arguments.
 module _ (s : State) (row : List ℕ) where
   making-verdict : (pages : ℕ) (c : Change) → listed 9 row ≡ true → listed 11 row ≡ true → listed 10 row ≡ true → Verdict row (Made s pages c) (making s pages c)
   unfolding making number
@@ -128,7 +139,7 @@ module _ (s : State) (c : Caller) (row : List ℕ) (r a n : ℕ) (storing : Bool
           (refusal row Fetched AddressingCapability refl l16)
           s _ _ x e
 
--- Any call after the checks 1 to 3.
+-- Any call after the checks 1 and 2 and those of its arguments.
 module _ (s : State) (c : Caller) where
   abbrev Fine : Operation → ℕ → Type 0
   Fine k n = Verdict (row k) (Performed s c k n) (perform s c k n)
@@ -176,26 +187,26 @@ module _ (s : State) (c : Caller) where
       check-verdict _ _ (ltb address (sizeOf (s .spaces) (slotOf (s .spaces) id))) Addressing _ refl refl (λ e.
       granted (record { owning = o; inside = ltb-true _ _ e; is = refl })))
 
-  -- 3 is in the row of each call that has arguments with limits
-  lists-3 : (k : Operation) (n : ℕ) → Lists3 (arguments (s .guests) c k n) (row k)
-  unfolding arguments row ownRow listed either
-  lists-3 (Enrol x) n = refl
-  lists-3 (Create name pages) n = refl
-  lists-3 (Destroy id) n = tt
-  lists-3 (Permit id guest right) n = refl
-  lists-3 (Isolate id) n = tt
-  lists-3 (Query owner name) n = refl
-  lists-3 (Add id right) n = tt
-  lists-3 (Remove token) n = tt
-  lists-3 (Load register value) n = refl
-  lists-3 (Mode m) n = refl
-  lists-3 (Fetch register address) n = refl
-  lists-3 (Store register address) n = refl
-  lists-3 Reset n = tt
-  lists-3 (Key key) n = refl
-  lists-3 (Block id address key mark) n = refl
+  -- the row of each call has the numbers of its arguments
+  lists-kinds : (k : Operation) (n : ℕ) → listsKinds (arguments (s .guests) c k n) (row k) ≡ true
+  unfolding arguments row ownRow listed limitNumber both either
+  lists-kinds (Enrol x) n = refl
+  lists-kinds (Create name pages) n = refl
+  lists-kinds (Destroy id) n = refl
+  lists-kinds (Permit id guest right) n = refl
+  lists-kinds (Isolate id) n = refl
+  lists-kinds (Query owner name) n = refl
+  lists-kinds (Add id right) n = refl
+  lists-kinds (Remove token) n = refl
+  lists-kinds (Load register value) n = refl
+  lists-kinds (Mode m) n = refl
+  lists-kinds (Fetch register address) n = refl
+  lists-kinds (Store register address) n = refl
+  lists-kinds Reset n = refl
+  lists-kinds (Key key) n = refl
+  lists-kinds (Block id address key mark) n = refl
 
--- Checks 2 and 3, and the call.
+-- Check 2, the checks of the arguments, and the call.
 record Judged (s : State) (k : Call) (n : ℕ) (d : Decision) : Type 0 where
   caller : goodCaller s (k .caller) (k .operation) ≡ true
   arguments : AllFit (arguments (s .guests) (k .caller) (k .operation) n)
@@ -205,7 +216,7 @@ judged-all : (s : State) (k : Call) (n : ℕ) → Verdict (row (k .operation)) (
 unfolding judge number row listed either
 judged-all s k n =
     check-verdict _ _ (goodCaller s (k .caller) (k .operation)) BadCaller _ refl refl (λ e2.
-    check-all _ _ (arguments (s .guests) (k .caller) (k .operation) n) _ (lists-3 s (k .caller) (k .operation) n) (λ e3.
+    check-all _ _ (arguments (s .guests) (k .caller) (k .operation) n) _ (lists-kinds s (k .caller) (k .operation) n) (λ e3.
     verdict-map (λ p. record { caller = e2; arguments = e3; performed = p }) (performed s (k .caller) (k .operation) n)))
 
 pub judged : (s : State) (k : Call) (n : ℕ) → Verdict (row (k .operation)) (Performed s (k .caller) (k .operation) n) (judge s k n)

@@ -1,6 +1,6 @@
--- Paper 01, answer 3: "an argument outside its limits". All arguments that have limits, with their kinds and places: places
--- count from 1 with the caller as 1, and a transfer's length as last. They are checked from left to right, after check 2.
-use Prim.Native.Nat.{ℕ}
+-- Paper 02, M-102, "Tell us which field was wrong": the arguments of each call, what is asked of each, and its place. They are
+-- checked from left to right, after check 2.
+use Prim.Native.Nat.{ℕ, suc}
 use mathlib.Core.Bool.{Bool, not}
 use mathlib.Core.List.{List, [], _∷_}
 use lib.Dec.{leb, eqb}
@@ -18,6 +18,12 @@ use Rattle.model.specs.Names.{goodName}
 use Rattle.model.specs.Searches.{enrolled}
 use Rattle.model.specs.Sizes.{guestCount, maxPages, maxAllowance, maxList, maxTransfer, maxKey}
 
+-- What is asked of an argument: nothing, or that it lies inside the limits of its kind.
+pub data Asked : Type 0 where
+  anything : Asked
+  limited : Kind → (fits : Bool) → Asked
+
+-- an argument that has limits, with its place
 pub record Argument : Type 0 where
   pub fits : Bool
   pub kind : Kind
@@ -42,11 +48,11 @@ goodKey n = leb n maxKey
 abbrev pub goodRegister : ℕ → Bool
 goodRegister r = leb r 15
 
--- "Lengths 0 and 257: 3. Lengths 1 and 256: go on."
+-- "A fetch or store moves 1 to 256 bytes"
 abbrev pub goodLength : ℕ → Bool
 goodLength n = both (leb 1 n) (leb n maxTransfer)
 
--- PERMIT: "3 (h not 1 to 8, not enrolled, or the caller itself)"
+-- PERMIT: "h not 1 to 8, not enrolled, or the caller itself" is outside
 abbrev pub goodOther : List Guest → Caller → (guest : ℕ) → Bool
 goodOther gs c h = both (enrolled gs h) (not (eqb h (c .guest)))
 
@@ -54,31 +60,41 @@ goodOther gs c h = both (enrolled gs h) (not (eqb h (c .guest)))
 abbrev pub settingsOf : (pages allowance share list asf : ℕ) → Settings
 settingsOf pages allowance share list asf = record { pages = pages; allowance = allowance; share = share; list = list; asf = asf }
 
-unfoldable pub arguments : List Guest → Caller → Operation → (buffer : ℕ) → List Argument
-arguments gs c (Enrol x) n =
-    argument (goodPages (x .pages)) Pages 2
-    ∷ argument (leb (x .allowance) maxAllowance) Allowance 3
-    ∷ argument (goodFlag (x .share)) Flag 4
-    ∷ argument (both (leb 1 (x .list)) (leb (x .list) maxList)) ListSize 5
-    ∷ argument (goodFlag (x .asf)) Flag 6
+-- Every argument after the caller, in the order of the call's form; a transfer's length, that of the lent buffer, "counts as last".
+abbrev pub asked : List Guest → Caller → Operation → (buffer : ℕ) → List Asked
+asked gs c (Enrol x) n =
+    limited Pages (goodPages (x .pages))
+    ∷ limited Allowance (leb (x .allowance) maxAllowance)
+    ∷ limited Flag (goodFlag (x .share))
+    ∷ limited ListSize (both (leb 1 (x .list)) (leb (x .list) maxList))
+    ∷ limited Flag (goodFlag (x .asf))
     ∷ []
-arguments gs c (Create name pages) n = argument (goodName name) Name 2 ∷ argument (goodPages pages) Pages 3 ∷ []
-arguments gs c (Destroy id) n = []
-arguments gs c (Permit id guest right) n = argument (goodOther gs c guest) OtherGuest 3 ∷ []
-arguments gs c (Isolate id) n = []
-arguments gs c (Query owner name) n =
-    argument (both (leb 1 owner) (leb owner guestCount)) OtherGuest 2 ∷ argument (goodName name) Name 3 ∷ []
-arguments gs c (Add id right) n = []
-arguments gs c (Remove token) n = []
-arguments gs c (Load register value) n = argument (goodRegister register) Register 2 ∷ []
-arguments gs c (Mode mode) n = argument (goodFlag mode) Flag 2 ∷ []
-arguments gs c (Fetch register address) n = argument (goodRegister register) Register 2 ∷ argument (goodLength n) Length 4 ∷ []
-arguments gs c (Store register address) n = argument (goodRegister register) Register 2 ∷ argument (goodLength n) Length 4 ∷ []
-arguments gs c Reset n = []
-arguments gs c (Key key) n = argument (goodKey key) AnyKey 2 ∷ []
-arguments gs c (Block id address key mark) n = argument (goodKey key) AnyKey 4 ∷ argument (goodFlag mark) Flag 5 ∷ []
+asked gs c (Create name pages) n = limited Name (goodName name) ∷ limited Pages (goodPages pages) ∷ []
+asked gs c (Destroy id) n = anything ∷ []
+asked gs c (Permit id guest right) n = anything ∷ limited OtherGuest (goodOther gs c guest) ∷ anything ∷ []
+asked gs c (Isolate id) n = anything ∷ []
+asked gs c (Query owner name) n = limited OtherGuest (both (leb 1 owner) (leb owner guestCount)) ∷ limited Name (goodName name) ∷ []
+asked gs c (Add id right) n = anything ∷ anything ∷ []
+asked gs c (Remove token) n = anything ∷ []
+asked gs c (Load register value) n = limited Register (goodRegister register) ∷ anything ∷ []
+asked gs c (Mode mode) n = limited Flag (goodFlag mode) ∷ []
+asked gs c (Fetch register address) n = limited Register (goodRegister register) ∷ anything ∷ limited Length (goodLength n) ∷ []
+asked gs c (Store register address) n = limited Register (goodRegister register) ∷ anything ∷ limited Length (goodLength n) ∷ []
+asked gs c Reset n = []
+asked gs c (Key key) n = limited AnyKey (goodKey key) ∷ []
+asked gs c (Block id address key mark) n = anything ∷ anything ∷ limited AnyKey (goodKey key) ∷ limited Flag (goodFlag mark) ∷ []
 
--- the leftmost argument outside its limits refuses
+-- those that have limits, where the first of the list has the given place
+abbrev pub placedFrom : (place : ℕ) → List Asked → List Argument
+placedFrom p [] = []
+placedFrom p (anything ∷ more) = placedFrom (suc p) more
+placedFrom p (limited k b ∷ more) = record { fits = b; kind = k; place = p } ∷ placedFrom (suc p) more
+
+-- "the argument's place, counted from 1 with the caller as 1"
+unfoldable pub arguments : List Guest → Caller → Operation → (buffer : ℕ) → List Argument
+arguments gs c k n = placedFrom 2 (asked gs c k n)
+
+-- "where several are wrong, the leftmost": it refuses, whatever the others are
 unfoldable pub checkAll : List Argument → Decision → Decision
 checkAll [] d = d
 checkAll (a ∷ more) d = check (a .fits) (Limit (a .kind) (a .place)) (checkAll more d)

@@ -1,5 +1,6 @@
 -- Paper 01, "The calls, each with its order of checks": each call as a decision on tables and lengths, its checks one chain
--- in the paper's order. Check 3, where a call has it, follows check 2 and stands in Arguments.
+-- in the paper's order. The checks of its arguments follow check 2 and stand in Arguments: where a row of the paper has its one
+-- number for them, ".." stands here, and the numbers are those of paper 02, M-102.
 use Prim.Native.Nat.{ℕ, _+_, _*_, _/_}
 use mathlib.Core.Bool.{Bool, true, false, not}
 use lib.Dec.{leb, ltb, eqb}
@@ -46,7 +47,7 @@ making s pages c =
     (check (ltb (freeRun s pages) (s .frames)) NoRun
     (accept (s .next) c (clear (hasFrame (layout (applied s c)) (applied s c .spaces) (freeSlot (s .spaces)))))))
 
--- "ENROL guest, pages 1-512, allowance 0-31, share 0/1, L, ASF 0/1: then 3, 9, 11, 10. Makes the guest's primary space,
+-- "ENROL guest, pages 1-512, allowance 0-31, share 0/1, L, ASF 0/1: then .., 9, 11, 10. Makes the guest's primary space,
 -- named BASE. Value: its identification."
 unfoldable pub newGuest : Settings → Guest
 newGuest x = record { enrolled = true; allowance = x .allowance; share = eqb (x .share) 1; list = x .list; asf = eqb (x .asf) 1 }
@@ -57,7 +58,7 @@ enrolling s g x = AddGuest (freeSlot (s .spaces)) (newSpace s g baseName (x .pag
 unfoldable pub enrol : State → (guest : ℕ) → Settings → Decision
 enrol s g x = making s (x .pages) (enrolling s g x)
 
--- "CREATE name, pages 1-512: 3, 4, 8, 9, 11, 10. Value: identification. The primary doesn't count in the allowance."
+-- "CREATE name, pages 1-512: .., 4, 8, 9, 11, 10. Value: identification. The primary doesn't count in the allowance."
 abbrev pub creating : State → (guest name pages : ℕ) → Change
 creating s g name pages = AddSpace (freeSlot (s .spaces)) (newSpace s g name pages)
 
@@ -87,7 +88,7 @@ destroy s g i =
     (check (not (eqb (spaceAt (s .spaces) u .name) baseName)) PrimarySpace
     (destroying s (eqb u) (DestroySpace u)))
 
--- "PERMIT space, guest h, read or write: 3 .., 5, 6, 7. The right becomes the greater of old and new; write includes read."
+-- "PERMIT space, guest h, read or write: .., 5, 6, 7. The right becomes the greater of old and new; write includes read."
 unfoldable pub permit : State → (guest id other : ℕ) → Right → Decision
 permit s g i h r =
     let u = slotOf (s .spaces) i in
@@ -105,7 +106,7 @@ isolate s g i =
 unfoldable pub entitled : State → (guest slot : ℕ) → Right → Bool
 entitled s g u r = either (eqb (spaceAt (s .spaces) u .owner) g) (allows (grantAt (s .permits) u g) r)
 
--- "QUERY owner, name: 3 .., 5. Value: the identification if caller owns it or is permitted; otherwise 5, the same as for an
+-- "QUERY owner, name: .., 5. Value: the identification if caller owns it or is permitted; otherwise 5, the same as for an
 -- absent space."
 unfoldable pub query : State → (guest owner name : ℕ) → Decision
 query s g owner name =
@@ -130,17 +131,17 @@ remove s g t =
     (check (assigned (s .entries) g (guestAt (s .guests) g .list) t) AlenTranslation
     (done (SetEntry (entryPlace g (entryNumber t)) (released (entryAt (s .entries) g (entryNumber t))))))
 
--- "LOAD register 0-15, any 32-bit value: 3."
+-- "LOAD register 0-15, any 32-bit value: .."
 unfoldable pub load : Caller → (register value : ℕ) → Decision
 load c r v = done (SetRegister (cpuPlace c) r v)
 
--- "MODE 0 primary, 1 access-register: 3, 19."
+-- "MODE 0 primary, 1 access-register: .., 19."
 unfoldable pub mode : State → Caller → (mode : ℕ) → Decision
 mode s c m =
     check (implies (eqb m 1) (guestAt (s .guests) (c .guest) .asf)) SpecialOperation
     (done (SetMode (cpuPlace c) (eqb m 1)))
 
--- "FETCH and STORE register, address: 3 (register or length), 14, 15, 16, 17, 18. Bytes of the fetch go to the buffer; a
+-- "FETCH and STORE register, address: .. (register or length), 14, 15, 16, 17, 18. Bytes of the fetch go to the buffer; a
 -- store replaces only the bytes named." The address and length are added as numbers without a width. Paper 02, M-100: "22, key
 -- protection, in FETCH and STORE after 18".
 unfoldable pub writes : Right → Bool
@@ -189,7 +190,7 @@ block s g i a k m =
     (check (ltb a (sizeOf (s .spaces) u)) Addressing
     (done (SetCell (frameOf (layout s) u (a / frameSize)) (record { key = k; mark = eqb m 1 }))))
 
--- Any call, after the checks 1, 2 and 3.
+-- Any call, after the checks 1 and 2 and those of its arguments.
 unfoldable pub perform : State → Caller → Operation → (buffer : ℕ) → Decision
 perform s c (Enrol x) n = enrol s (c .guest) x
 perform s c (Create name pages) n = create s (c .guest) name pages
@@ -217,7 +218,7 @@ mayEnrol s g = both (both (leb 1 g) (leb g guestCount)) (not (guestAt (s .guests
 unfoldable pub goodCaller : State → Caller → Operation → Bool
 goodCaller s c k = choose (enrols k) (mayEnrol s (c .guest)) (enrolled (s .guests) (c .guest))
 
--- Checks 2 and 3, and the call: what a caller that holds a sound state and its scratch is answered.
+-- Check 2, the checks of the arguments, and the call: what a caller that holds a sound state and its scratch is answered.
 unfoldable pub judge : State → Call → (buffer : ℕ) → Decision
 judge s k n =
     check (goodCaller s (k .caller) (k .operation)) BadCaller

@@ -1,5 +1,5 @@
--- Paper 01, "Sizes": "A fresh state for F frames has nobody enrolled and next identification 1; F outside 1 to 512 gives
--- answer 3 and tables of zeros with F 0, which aren't sound."
+-- Paper 01, "Sizes": "A fresh state for F frames has nobody enrolled and next identification 1; F outside 1 to 512 gives ..
+-- tables of zeros with F 0, which aren't sound." Paper 02, M-102: "39 for F"; "For F, the value is 1."
 use Prim.Native.Nat.{ℕ}
 use mathlib.Core.Bool.{Bool}
 use lib.ListN.{replicate}

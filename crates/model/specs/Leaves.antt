@@ -26,7 +26,7 @@ flag l u = getD l u false
 unfoldable pub inRun : (first size : ℕ) → (place : ℕ) → Bool
 inRun i n f = both (leb i f) (ltb f (i + n))
 
--- scratch and the lent buffer after the checks 2 and 3 and the call
+-- scratch and the lent buffer after check 2, the checks of the arguments and the call
 unfoldable pub scratchJudged : State → Call → (scratch buffer : List ℕ) → List ℕ
 scratchJudged s k m b = scratchAfter (after s (judge s k (length b))) (judge s k (length b) .effect) m b
 

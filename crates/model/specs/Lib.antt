@@ -22,6 +22,8 @@ pub mod Keys
 pub mod Calls
 pub mod Granted
 pub mod Verdict
+-- of M-102, "Tell us which field was wrong"
+pub mod Limits
 -- "Tokens and translation"
 pub mod Tokens
 pub mod Translation

@@ -15,7 +15,7 @@ use Rattle.model.specs.declared.Operation.{Operation}
 use Rattle.model.specs.declared.Request.{Request}
 use Rattle.model.specs.declared.Request.the-variants as request
 use Rattle.model.specs.declared.State.{State}
-use Rattle.model.specs.Answers.{number, value}
+use Rattle.model.specs.Answers.{number, value, namesArgument}
 use Rattle.model.specs.Classes.{Moves, noBytes, fromSpace, toSpace, Shows, noValue, itsValue, itsBytes, classOf}
 use Rattle.model.specs.Fresh.{emptyTables}
 use Rattle.model.specs.Lines.{readLine, dataOf}
@@ -67,8 +67,8 @@ issueOf k n d = record { call = k; buffer = bufferFor (k .operation) n d }
 abbrev pub callTurn : Session → Request → Outcome → Turn
 callTurn s r o = turn r (o .answer) (o .buffer) (withMachine s (o .machine))
 
--- "The first good line is FRAMES and F; here F above 8 gives 3, there is then no state, and another FRAMES may come. A call
--- before a done FRAMES, a FRAMES after one, .. : 21"
+-- "The first good line is FRAMES and F; here F above 8 gives .., there is then no state, and another FRAMES may come. A
+-- call before a done FRAMES, a FRAMES after one, .. : 21". Paper 02, M-102: "39 for F"; "For F, the value is 1."
 unfoldable pub framesTurn : Session → (frames : ℕ) → Turn
 framesTurn s f =
     choose (s .begun) (turn (request.Frames f) LineNotRead [] s)
@@ -137,9 +137,12 @@ requestText (request.Frames f) a b = dash
 requestText (request.Call k n) a b = doneText (k .operation) a b
 requestText request.NotRead a b = dash
 
--- "or the call was refused"
+-- "or the call was refused"; but the place of an argument that was outside its limits: paper 02, M-102, "The session prints it."
+unfoldable pub refusalText : Answer → List ℕ
+refusalText a = choose (namesArgument (number a)) (decimal (value a)) dash
+
 unfoldable pub valueText : LineOutcome → List ℕ
-valueText o = choose (eqb (number (o .answer)) 0) (requestText (o .request) (o .answer) (o .moved)) dash
+valueText o = choose (eqb (number (o .answer)) 0) (requestText (o .request) (o .answer) (o .moved)) (refusalText (o .answer))
 
 -- "It prints a header, then per line, parted by one space: line number, answer, value." Lines are counted in 64 bits.
 unfoldable pub lineText : (line : ℕ) → LineOutcome → List ℕ

@@ -12,25 +12,25 @@ use Rattle.model.specs.declared.Operation.the-variants.{Enrol, Create, D
 use Rattle.model.specs.Answers.{number}
 use Rattle.model.specs.Decision.{Decision, refuse}
 
--- what each call may answer after the checks 1 and 2, in the paper's order. The paper's row for FETCH and STORE lists 18,
--- which a fetch never gives. Paper 02, M-100: "22, key protection, in FETCH and STORE after 18; KEY and BLOCK use 1, 2, 3,
--- BLOCK then 5, 6, 17."
+-- What each call may answer after the checks 1 and 2, in the paper's order. The paper's row for FETCH and STORE lists 18, which a
+-- fetch never gives. Paper 02, M-100: "22, key protection, in FETCH and STORE after 18"; "BLOCK then 5, 6, 17"; M-102: for the
+-- arguments, from left to right, "31 to 40".
 unfoldable pub ownRow : Operation → List ℕ
-ownRow (Enrol x) = 3 ∷ 9 ∷ 11 ∷ 10 ∷ []
-ownRow (Create name pages) = 3 ∷ 4 ∷ 8 ∷ 9 ∷ 11 ∷ 10 ∷ []
+ownRow (Enrol x) = 31 ∷ 32 ∷ 34 ∷ 33 ∷ 9 ∷ 11 ∷ 10 ∷ []
+ownRow (Create name pages) = 35 ∷ 31 ∷ 4 ∷ 8 ∷ 9 ∷ 11 ∷ 10 ∷ []
 ownRow (Destroy id) = 5 ∷ 6 ∷ 20 ∷ []
-ownRow (Permit id guest right) = 3 ∷ 5 ∷ 6 ∷ 7 ∷ []
+ownRow (Permit id guest right) = 38 ∷ 5 ∷ 6 ∷ 7 ∷ []
 ownRow (Isolate id) = 5 ∷ 6 ∷ []
-ownRow (Query owner name) = 3 ∷ 5 ∷ []
+ownRow (Query owner name) = 38 ∷ 35 ∷ 5 ∷ []
 ownRow (Add id right) = 5 ∷ 12 ∷ 13 ∷ []
 ownRow (Remove token) = 14 ∷ 15 ∷ []
-ownRow (Load register value) = 3 ∷ []
-ownRow (Mode m) = 3 ∷ 19 ∷ []
-ownRow (Fetch register address) = 3 ∷ 14 ∷ 15 ∷ 16 ∷ 17 ∷ 22 ∷ []
-ownRow (Store register address) = 3 ∷ 14 ∷ 15 ∷ 16 ∷ 17 ∷ 18 ∷ 22 ∷ []
+ownRow (Load register value) = 36 ∷ []
+ownRow (Mode m) = 34 ∷ 19 ∷ []
+ownRow (Fetch register address) = 36 ∷ 37 ∷ 14 ∷ 15 ∷ 16 ∷ 17 ∷ 22 ∷ []
+ownRow (Store register address) = 36 ∷ 37 ∷ 14 ∷ 15 ∷ 16 ∷ 17 ∷ 18 ∷ 22 ∷ []
 ownRow Reset = []
-ownRow (Key key) = 3 ∷ []
-ownRow (Block id address key mark) = 3 ∷ 5 ∷ 6 ∷ 17 ∷ []
+ownRow (Key key) = 40 ∷ []
+ownRow (Block id address key mark) = 40 ∷ 34 ∷ 5 ∷ 6 ∷ 17 ∷ []
 
 -- "All check 1, then 2 first."
 unfoldable pub row : Operation → List ℕ

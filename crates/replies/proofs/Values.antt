@@ -1,20 +1,22 @@
 -- Which text an outcome's value is, by what the line asked for, and a line put together. Assumes nothing.
 use Prim.Native.Nat.{ℕ}
+use mathlib.Core.Bool.{Bool, true, false}
 use mathlib.Core.List.{List, [], _∷_, _++_, append-assoc}
 use mathlib.Core.Path.{_≡_, refl, sym, ap, _∙_}
 use denote.Enum.Declared.{tagOf}
 use types.Run.{OneOf, miss}
 use borrow.Author.Tests.{eq-eqb, ne-eqb}
-use Rattle.lists.proofs.Choice.{yes!, no! }
+use Rattle.lists.specs.Choice.{both}
+use Rattle.lists.proofs.Choice.{true-false, yes!, no! }
 use Rattle.model.specs.declared.Answer.{Answer}
 use Rattle.model.specs.declared.Call.{Call}
 use Rattle.model.specs.declared.Operation.{Operation}
 use Rattle.model.specs.declared.Operation.the-variants.{Fetch}
 use Rattle.model.specs.declared.Request.{Request}
 use Rattle.model.specs.declared.Request.the-variants as request
-use Rattle.model.specs.Answers.{number, value}
+use Rattle.model.specs.Answers.{number, value, namesArgument}
 use Rattle.model.specs.Classes.{noValue, itsValue}
-use Rattle.model.specs.Session.{LineOutcome, decimal, hexText, dash, shown, doneText, requestText, valueText, lineText}
+use Rattle.model.specs.Session.{LineOutcome, decimal, hexText, dash, shown, doneText, requestText, refusalText, valueText, lineText}
 use Rattle.model.proofs.Classes.{shows-at}
 use Rattle.model.proofs.Operation as operation-cases
 use Rattle.model.proofs.Request as request-cases
@@ -58,18 +60,34 @@ none-asked (request.Frames f) a m h = refl
 none-asked (request.Call k n) a m h = absurd (miss (0 ∷ 2 ∷ []) 1 tt h)
 none-asked request.NotRead a m h = refl
 
-module _ {o o₁ : List ℕ} {p q : ℕ} (r : Request) (a : Answer) (m : List ℕ) {n : ℕ} (e : n ≡ number a) where
-  pub refused-value : (n ≡ 0 → ⊥) → Wrote o p dash o₁ q → Wrote o p (valueText (outcome r a m)) o₁ q
+-- a line was done, or was refused and names an argument or doesn't, by the number of its answer
+module _ (r : Request) (a : Answer) (m : List ℕ) where
+  done-text : number a ≡ 0 → valueText (outcome r a m) ≡ requestText r a m
   unfolding valueText
-  refused-value f w = rw (no! (requestText r a m) dash (ne-eqb (number a) 0 (λ z. f (e ∙ z)))) w
+  done-text z = yes! (requestText r a m) (refusalText a) (eq-eqb (number a) 0 z)
+
+  refused-text : (number a ≡ 0 → ⊥) → valueText (outcome r a m) ≡ refusalText a
+  unfolding valueText
+  refused-text f = no! (requestText r a m) (refusalText a) (ne-eqb (number a) 0 f)
+
+  argument-text : namesArgument (number a) ≡ true → valueText (outcome r a m) ≡ decimal (value a)
+  unfolding refusalText namesArgument both
+  argument-text t = refused-text (λ z. true-false t (ap namesArgument z)) ∙ yes! (decimal (value a)) dash t
+
+module _ {o o₁ : List ℕ} {p q : ℕ} (r : Request) (a : Answer) (m : List ℕ) {n : ℕ} (e : n ≡ number a) where
+  pub argument-value : {v : ℕ} {b : Bool} → b ≡ namesArgument n → b ≡ true → v ≡ value a → Wrote o p (decimal v) o₁ q → Wrote o p (valueText (outcome r a m)) o₁ q
+  argument-value is t z w = rw (argument-text r a m (ap namesArgument (sym e) ∙ sym is ∙ t), ← z) w
+
+  pub refused-value : {b : Bool} → b ≡ namesArgument n → b ≡ false → (n ≡ 0 → ⊥) → Wrote o p dash o₁ q → Wrote o p (valueText (outcome r a m)) o₁ q
+  unfolding refusalText
+  refused-value is t f w = rw (refused-text r a m (λ z. f (e ∙ z)), no! (decimal (value a)) dash (ap namesArgument (sym e) ∙ sym is ∙ t)) w
 
   pub no-call-value : n ≡ 0 → OneOf (0 ∷ 2 ∷ []) (tagOf request-cases.the-type r) → Wrote o p dash o₁ q → Wrote o p (valueText (outcome r a m)) o₁ q
-  unfolding valueText
-  no-call-value z h w = rw (yes! (requestText r a m) dash (eq-eqb (number a) 0 (sym e ∙ z)), ← none-asked r a m h) w
+  no-call-value z h w = rw (done-text r a m (sym e ∙ z), ← none-asked r a m h) w
 
   pub call-value : {k : Call} {l : ℕ} → n ≡ 0 → r ≡ request.Call k l → Wrote o p (doneText (k .operation) a m) o₁ q → Wrote o p (valueText (outcome r a m)) o₁ q
-  unfolding valueText requestText
-  call-value z c w = rw (yes! (requestText r a m) dash (eq-eqb (number a) 0 (sym e ∙ z)), c) w
+  unfolding requestText
+  call-value z c w = rw (done-text r a m (sym e ∙ z), c) w
 
 -- the parts of a line
 pub answer-done : {o o₁ o₂ o₃ : List ℕ} {p p₁ p₂ p₃ k : ℕ} (n : ℕ) (a : Answer) → k ≡ number a → Wrote o p (decimal n) o₁ p₁ → Wrote o₁ p₁ (32 ∷ []) o₂ p₂

@@ -25,13 +25,17 @@ fn put_done(out: &mut [u8], at: usize, operation: Operation, answer: Answer, mov
     }
 }
 
-// A line that is no call, or was refused, has no value.
+// A refusal shows the place of the argument that it names, if it names one. A line that is no call has no value.
 fn put_value(out: &mut [u8], at: usize, request: Request, answer: Answer, moved: &[u8]) -> usize
     requires { ⌜ (at + 514 ≤ length (now out)) × (length (now moved) ≤ 257) ⌝ }
     ensures { λ r. ⌜ Wrote (now (out .entry)) at (valueText (record { request = request; answer = answer; moved = now (moved .entry) })) (now (out .exit)) r ⌝ }
     ensures short { λ r. ⌜ r ≤ at + 514 ⌝ }
 {
-    if answers::number(answer) != 0 {
+    let number = answers::number(answer);
+    if answers::names_argument(number) {
+        return digits::put_decimal(out, at, answers::value(answer) as u64);
+    }
+    if number != 0 {
         return digits::put_byte(out, at, b'-');
     }
     let Request::Call { call, length: _ } = request else {

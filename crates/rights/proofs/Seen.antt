@@ -105,7 +105,7 @@ module _ (v : View) (i h : ℕ) (r : Right) (x : Edited) (l : v .place < 8) wher
       ∙ check-no _ _ (both-no _ (place-no (v .other) (s .guests) h (permit-other s (c .guest) i h r v e) q)))
 
   module _ (n : h ≡ v .place + 1 → ⊥) (m : v .other < 8) (o : Owned) (is : o ≡ ownedAt (v .slot) (v .space) (v .place + 1)) where
-    -- checks 2 and 3 have passed
+    -- check 2 and that of h have passed
     other-good : (s : State) (c : Caller) → Shows v (Permit i h r) s c → goodOther (s .guests) c h ≡ true
     other-good s c e =
         both-intro _ _ (place-yes (v .other) (s .guests) h (permit-other s (c .guest) i h r v e) m)
