@@ -52,8 +52,8 @@ Varied X m [] = Unit {0}
 Varied X m (t ∷ ts) = Grows X (t .changed) × MayDiffer (t .changed) m (t .first) (t .second) × Varied (t .changed) (step m (t .first) .machine) ts
 
 -- "In both runs a call returns the same; equal after it are the tables, the bytes of each live space but that one, and a
--- fetch's buffer unless that fetch reaches that space." A call returns its whole answer: the number and value that the paper
--- speaks of, and of a refused argument its kind and place.
+-- fetch's buffer unless that fetch reaches that space." A call returns an answer, with the number and value that the
+-- paper speaks of.
 pub record SameCall (X L : ℕ → Bool) (m₁ m₂ : Machine) (i j : Issue) : Type 0 where
   pub number : number (step m₁ i .answer) ≡ number (step m₂ j .answer)
   pub value : value (step m₁ i .answer) ≡ value (step m₂ j .answer)

@@ -6,6 +6,7 @@ pub mod SoundTest
 pub mod Runs
 pub mod NewSpace
 pub mod Make
+pub mod Answers
 pub mod Verdict
 pub mod Refusals
 pub mod Moving

@@ -14,9 +14,9 @@ use Rattle.model.specs.Step.{Outcome, step}
 abbrev pub stepOf : State → (scratch : List ℕ) → Call → (buffer : List ℕ) → Outcome
 stepOf s m k b = step (record { tables = s; scratch = m }) (record { call = k; buffer = b })
 
--- An answer, tables, scratch and buffer are those of an outcome. `number` and `value` are what the paper speaks of. But a caller
--- is handed the whole answer, and that of a refused argument holds a kind and a place besides: were these left free, a byte of
--- another guest's space could stand there.
+-- An answer, tables, scratch and buffer are those of an outcome. `number` and `value` are what the papers speak of, and `answer` is
+-- all that a caller is handed. The two tell the whole of it (proofs/Answers): an answer has no room for anything else, such as a byte
+-- of another guest's space.
 pub record Promise (o : Outcome) (a : Answer) (s : State) (m b : List ℕ) : Type 0 where
   pub number : numberOf a ≡ numberOf (o .answer)
   pub value : valueOf a ≡ valueOf (o .answer)
