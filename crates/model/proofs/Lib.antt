@@ -31,6 +31,7 @@ pub mod Types
 pub mod Classes
 pub mod Guards
 pub mod Limits
+pub mod Places
 pub mod Effects
 pub mod MakeEffects
 pub mod WithdrawEffects

@@ -41,4 +41,6 @@ pub mod Promise
 -- "Both sides of each edge" stands in the crate `cases`, which computes with all of these
 -- "The session program"
 pub mod Lines
+-- of M-102: the place of an argument in a line
+pub mod Places
 pub mod Session
