@@ -16,6 +16,10 @@ module _ (v w : List ℕ) where
   same : (test : ℕ → Bool) (n : ℕ) → at v n ≡ at w n → test (at v n) ≡ test (at w n)
   same test n q = ap test q
 
+  -- PERMIT's h is held against the caller too
+  same-other : (gs : List Guest) → at v 0 ≡ at w 0 → at v 2 ≡ at w 2 → goodOther gs (record { guest = at v 0 }) (at v 2) ≡ goodOther gs (record { guest = at w 0 }) (at w 2)
+  same-other gs e q = ap₂ (λ c h. goodOther gs (record { guest = c }) h) e q
+
 -- form by form: FRAMES, ENROL, CREATE, DESTROY, PERMIT, ISOLATE, QUERY, ADD, REMOVE, LOAD, MODE, FETCH, STORE, RESET, KEY, BLOCK
 pub places-are-fields : PlacesAreFields
 unfolding forms arguments
@@ -28,7 +32,7 @@ places-are-fields gs v w e =
     (next refl refl (same v w goodFlag 5) none)))))
     (and (next refl refl (same v w goodName 1) (next refl refl (same v w goodPages 2) none))
     (and none
-    (and (next refl refl (ap₂ (λ c h. goodOther gs (record { guest = c }) h) e) none)
+    (and (next refl refl (same-other v w gs e) none)
     (and none
     (and (next refl refl (same v w (λ x. both (leb 1 x) (leb x 8)) 1) (next refl refl (same v w goodName 2) none))
     (and none

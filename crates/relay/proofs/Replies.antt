@@ -14,7 +14,7 @@ use Rattle.model.specs.Classes.{Shows, noValue, itsValue, itsBytes, classOf}
 use Rattle.model.specs.declared.Answer.{Answer}
 use Rattle.model.specs.declared.Request.{Request}
 use Rattle.model.specs.declared.Request.the-variants as request
-use Rattle.model.specs.Session.{LineOutcome, decimalBy, decimal, hexLetter, hexText, dash, shown, doneText, requestText, valueText, lineText}
+use Rattle.model.specs.Session.{LineOutcome, decimalBy, decimal, hexLetter, hexText, dash, shown, doneText, requestText, refusalText, valueText, lineText}
 use Rattle.descriptors.specs.Came.{newlines}
 use Rattle.descriptors.proofs.Newlines.{newlines-append}
 
@@ -67,9 +67,13 @@ in-request (request.Frames f) a b = in-dash
 in-request (request.Call k n) a b = in-shown (classOf (k .operation) .shows) a b
 in-request request.NotRead a b = in-dash
 
+in-refusal : (a : Answer) → newlines (refusalText a) ≡ 0
+unfolding refusalText
+in-refusal a = chosen _ _ _ (in-decimal 20 (value a)) in-dash
+
 in-value : (o : LineOutcome) → newlines (valueText o) ≡ 0
 unfolding valueText
-in-value o = chosen _ _ _ (in-request (o .request) (o .answer) (o .moved)) in-dash
+in-value o = chosen _ _ _ (in-request (o .request) (o .answer) (o .moved)) (in-refusal (o .answer))
 
 pub in-reply : (n : ℕ) (o : LineOutcome) → newlines (lineText n o) ≡ 1
 unfolding lineText newlines oneIf
