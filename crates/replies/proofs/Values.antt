@@ -90,16 +90,16 @@ module _ {o o₁ : List ℕ} {p q : ℕ} (r : Request) (a : Answer) (m : List �
   call-value z c w = rw (done-text r a m (sym e ∙ z), c) w
 
 -- the parts of a line
-pub answer-done : {o o₁ o₂ o₃ : List ℕ} {p p₁ p₂ p₃ k : ℕ} (n : ℕ) (a : Answer) → k ≡ number a → Wrote o p (decimal n) o₁ p₁ → Wrote o₁ p₁ (32 ∷ []) o₂ p₂
-    → Wrote o₂ p₂ (decimal k) o₃ p₃ → Wrote o p (decimal n ++ (32 ∷ decimal (number a))) o₃ p₃
-answer-done n a e w₁ w₂ w₃ = rw (← e) (wrote-more w₁ (wrote-more w₂ w₃))
+pub answer-done : {o o₁ o₂ o₃ : List ℕ} {p p₁ p₂ p₃ : ℕ} (n k : ℕ) → Wrote o p (decimal n) o₁ p₁ → Wrote o₁ p₁ (32 ∷ []) o₂ p₂ → Wrote o₂ p₂ (decimal k) o₃ p₃
+    → Wrote o p (decimal n ++ (32 ∷ decimal k)) o₃ p₃
+answer-done n k w₁ w₂ w₃ = wrote-more w₁ (wrote-more w₂ w₃)
 
 pub end-done : {o o₁ o₂ o₃ : List ℕ} {p p₁ p₂ p₃ : ℕ} (r : Request) (a : Answer) (m : List ℕ) → Wrote o p (32 ∷ []) o₁ p₁ → Wrote o₁ p₁ (valueText (outcome r a m)) o₂ p₂
     → Wrote o₂ p₂ (10 ∷ []) o₃ p₃ → Wrote o p (32 ∷ valueText (outcome r a m) ++ (10 ∷ [])) o₃ p₃
 end-done r a m w₁ w₂ w₃ = wrote-more w₁ (wrote-more w₂ w₃)
 
-pub line-done : {o o₁ o₂ : List ℕ} {p p₁ p₂ : ℕ} (n : ℕ) (r : Request) (a : Answer) (m : List ℕ) → Wrote o p (decimal n ++ (32 ∷ decimal (number a))) o₁ p₁
+pub line-done : {o o₁ o₂ : List ℕ} {p p₁ p₂ k : ℕ} (n : ℕ) (r : Request) (a : Answer) (m : List ℕ) → k ≡ number a → Wrote o p (decimal n ++ (32 ∷ decimal k)) o₁ p₁
     → Wrote o₁ p₁ (32 ∷ valueText (outcome r a m) ++ (10 ∷ [])) o₂ p₂ → Wrote o p (lineText n (outcome r a m)) o₂ p₂
 unfolding lineText
-line-done n r a m w₁ w₂ =
-    rw (append-assoc (decimal n) (32 ∷ decimal (number a)) (32 ∷ valueText (outcome r a m) ++ (10 ∷ []))) at (wrote-more w₁ w₂)
+line-done {k} n r a m e w₁ w₂ =
+    rw (← e) (rw (append-assoc (decimal n) (32 ∷ decimal k) (32 ∷ valueText (outcome r a m) ++ (10 ∷ []))) at (wrote-more w₁ w₂))
