@@ -1,10 +1,10 @@
-// The paper's number and value of an answer.
+// The papers' number and value of an answer.
 ghost use mathlib.Core.Path.{_≡_};
 ghost use Rattle.model.specs.Answers.{limitNumber, namesArgument, number as numberOf, value as valueOf};
 use model::Answer;
 use model::Kind;
 
-// The number for an argument outside its limits, by its kind. names_argument has the lowest and the highest of them.
+// The number for an argument outside its limits, by its kind.
 fn limit_number(kind: Kind) -> u32
     ensures { λ r. ⌜ r ≡ limitNumber kind ⌝ }
 {
@@ -22,7 +22,7 @@ fn limit_number(kind: Kind) -> u32
     }
 }
 
-// Whether an answer of this number names an argument.
+// Whether this is one of limit_number's numbers, so that the answer names an argument.
 pub fn names_argument(number: u32) -> bool
     ensures { λ r. ⌜ r ≡ namesArgument number ⌝ }
 {
@@ -63,7 +63,7 @@ pub fn number(a: Answer) -> u32
     }
 }
 
-// A call that was done has the value that its rule names, and an argument outside its limits its place.
+// A call that was done has the value that its rule names, an argument outside its limits its place, and any other refusal 0.
 pub fn value(a: Answer) -> u32
     ensures { λ r. ⌜ r ≡ valueOf a ⌝ }
 {

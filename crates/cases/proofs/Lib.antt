@@ -5,3 +5,4 @@ pub mod InstanceRun
 pub mod Instance
 pub mod InstanceRecord
 pub mod InstanceHanded
+pub mod InstanceLimits

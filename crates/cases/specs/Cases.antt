@@ -1,6 +1,6 @@
 -- Paper 01, "Both sides of each edge": the cases marked P, and the case of the free frames; and cases of paper 02, M-100, "Storage
--- keys on each block", and M-102, "Tell us which field was wrong". All are one table. A case is a start state and calls with what each must answer; each goes through the whole
--- decision, check 1 included.
+-- keys on each block", and M-102, "Tell us which field was wrong". All are one table. A case is a start state and calls with what
+-- each must answer; each goes through the whole decision, check 1 included.
 use Prim.Native.Nat.{ℕ, _*_}
 use mathlib.Core.Bool.{Bool, true}
 use mathlib.Core.List.{List, [], _∷_}
@@ -134,7 +134,7 @@ cases =
     ∷ trial (Enrol (settingsOf 1 31 1 30 1)) 0 0 1
     ∷ [])
     -- "the length counts as last"
-    ∷ case (emptyTables 8 1) (holding 1 4 ∷ trial (Fetch 16 0) 257 36 2 ∷ trial (Store 16 0) 0 36 2 ∷ trial (Fetch 15 0) 258 37 4 ∷ trial (Store 15 0) 0 37 4 ∷ [])
+    ∷ case (emptyTables 8 1) (holding 1 4 ∷ trial (Fetch 16 0) 257 36 2 ∷ trial (Store 16 0) 0 36 2 ∷ trial (Fetch 15 0) 257 37 4 ∷ trial (Fetch 15 0) 258 37 4 ∷ trial (Store 15 0) 0 37 4 ∷ trial (Store 15 0) 257 37 4 ∷ trial (Store 15 0) 256 0 0 ∷ [])
     -- the other calls, with all wrong that can be, and where two have limits then with the left one mended: 0 is no name, 9 no space
     ∷ case (emptyTables 8 1)
     (holding 1 4

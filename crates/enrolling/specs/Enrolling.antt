@@ -1,5 +1,5 @@
--- ENROL's check 2 and those of its arguments as the code makes them: the place of a guest that may enrol, 8 for any other number; the place of the
--- first setting outside its limits, and the kind of the one at a place.
+-- ENROL's check 2 and those of its arguments as the code makes them: the place of a guest that may enrol, 8 for any other number;
+-- the place of the first setting outside its limits, and the kind of the one at a place.
 use Prim.Native.Nat.{ℕ}
 use mathlib.Core.Bool.{not}
 use mathlib.Core.List.{List}

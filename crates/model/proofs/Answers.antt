@@ -1,13 +1,16 @@
--- Number and value tell the whole answer: a caller is handed nothing besides. Assumes nothing.
+-- Number and value tell the whole answer: a caller is handed nothing besides. The numbers 31 to 40 are those of an argument outside
+-- its limits, and of nothing else. Assumes nothing.
 use Prim.Native.Nat.{ℕ}
+use mathlib.Core.Bool.{true, false}
+use mathlib.Core.Logic.{_≢_}
 use mathlib.Core.Path.{_≡_, refl, sym, ap₂, _∙_}
 use lib.Dec.{eqb}
-use Rattle.lists.specs.Choice.{choose}
+use Rattle.lists.specs.Choice.{choose, both}
 use Rattle.model.specs.declared.Answer.{Answer}
 use Rattle.model.specs.declared.Answer.the-variants.{Done, Unsound, BadCaller, Limit, NameTaken, NoSpace, NotOwner, NoSharing, AllowanceUsed, SlotsUsed, NoRun, NoIdentification, NotPermitted, ListFull, AletSpecification, AlenTranslation, AddressingCapability, Addressing, Protection, SpecialOperation, PrimarySpace, LineNotRead, KeyProtection}
 use Rattle.model.specs.declared.Kind.{Kind}
 use Rattle.model.specs.declared.Kind.the-variants.{Pages, Allowance, ListSize, Flag, Name, Register, Length, OtherGuest, Frames, Key}
-use Rattle.model.specs.Answers.{limitNumber, number, value}
+use Rattle.model.specs.Answers.{limitNumber, namesArgument, number, value}
 
 -- the kind and the answer with a number
 unfoldable kindFrom : ℕ → Kind
@@ -88,3 +91,43 @@ answer-back KeyProtection = refl
 
 pub answer-told : (a b : Answer) → number a ≡ number b → value a ≡ value b → a ≡ b
 answer-told a b n v = sym (answer-back a) ∙ ap₂ answerFrom n v ∙ answer-back b
+
+pub argument-named : (k : Kind) → namesArgument (limitNumber k) ≡ true
+unfolding limitNumber namesArgument both
+argument-named Pages = refl
+argument-named Allowance = refl
+argument-named ListSize = refl
+argument-named Flag = refl
+argument-named Name = refl
+argument-named Register = refl
+argument-named Length = refl
+argument-named OtherGuest = refl
+argument-named Frames = refl
+argument-named Key = refl
+
+-- any other answer names none
+pub other-unnamed : (a : Answer) → ((k : Kind) (p : ℕ) → a ≢ Limit k p) → namesArgument (number a) ≡ false
+unfolding number namesArgument both
+other-unnamed (Done v) n = refl
+other-unnamed (Limit k p) n = absurd (n k p refl)
+other-unnamed Unsound n = refl
+other-unnamed BadCaller n = refl
+other-unnamed NameTaken n = refl
+other-unnamed NoSpace n = refl
+other-unnamed NotOwner n = refl
+other-unnamed NoSharing n = refl
+other-unnamed AllowanceUsed n = refl
+other-unnamed SlotsUsed n = refl
+other-unnamed NoRun n = refl
+other-unnamed NoIdentification n = refl
+other-unnamed NotPermitted n = refl
+other-unnamed ListFull n = refl
+other-unnamed AletSpecification n = refl
+other-unnamed AlenTranslation n = refl
+other-unnamed AddressingCapability n = refl
+other-unnamed Addressing n = refl
+other-unnamed Protection n = refl
+other-unnamed SpecialOperation n = refl
+other-unnamed PrimarySpace n = refl
+other-unnamed LineNotRead n = refl
+other-unnamed KeyProtection n = refl

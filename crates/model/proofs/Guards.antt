@@ -1,20 +1,17 @@
--- Which answer a call gets: the number of the first of its checks that fails, in the paper's order. Assumes nothing.
-use Prim.Native.Nat.{ℕ, _+_, _≤_}
+-- Which answer a call gets: the number of the first of its checks that fails, in the paper's order. A call's row (specs/Verdict) is the
+-- numbers of these checks. Assumes nothing.
+use Prim.Native.Nat.{ℕ, _+_}
 use mathlib.Core.Bool.{Bool, true, false, not}
 use mathlib.Core.List.{List, [], _∷_}
-use mathlib.Core.Logic.{_≢_}
 use mathlib.Core.Path.{_≡_, refl, sym, ap, _∙_}
 use lib.Dec.{leb, ltb, eqb}
 use borrow.Author.Tests.{not-false}
 use Rattle.lists.specs.Choice.{choose, both, either, implies}
-use Rattle.lists.specs.Decides.{Decides}
 use Rattle.lists.proofs.Choice.{true-false, not-to, yes!, no!, choose-elim, both-no, either-left, either-right, either-none}
-use Rattle.lists.proofs.Decides.{d-le, d-eq, d-is, d-not, d-both}
 use Rattle.model.specs.declared.Answer.{Answer}
 use Rattle.model.specs.declared.Answer.the-variants.{Unsound, BadCaller, NameTaken, NoSpace, NotOwner, NoSharing, AllowanceUsed, SlotsUsed, NoRun, NoIdentification, NotPermitted, ListFull, AletSpecification, AlenTranslation, Addressing, Protection, SpecialOperation, PrimarySpace, KeyProtection}
 use Rattle.model.specs.declared.Call.{Call}
 use Rattle.model.specs.declared.Caller.{Caller}
-use Rattle.model.specs.declared.Guest.{Guest}
 use Rattle.model.specs.declared.Operation.{Operation}
 use Rattle.model.specs.declared.Operation.the-variants.{Enrol, Create, Destroy, Permit, Isolate, Query, Add, Remove, Load, Mode, Fetch, Store, Reset, Key, Block}
 use Rattle.model.specs.declared.Right.{Right}
@@ -25,18 +22,17 @@ use Rattle.model.specs.declared.State.{State}
 use Rattle.model.specs.declared.Translation.{Translation}
 use Rattle.model.specs.declared.Translation.the-variants.{Reached, Refused}
 use Rattle.model.specs.Answers.{limitNumber, number}
-use Rattle.model.specs.Arguments.{Argument, arguments, checkAll, goodPages}
+use Rattle.model.specs.Arguments.{Argument, arguments, checkAll}
 use Rattle.model.specs.Calls.{making, enrol, create, owning, destroy, permit, isolate, entitled, query, add, remove, load, mode, writes, accessAt, access, target, accessKey, fetching, storing, reset, setKey, block, perform, goodCaller, judge, ready, decide}
 use Rattle.model.specs.Decision.{Decision, Effect, check}
 use Rattle.model.specs.Frames.{sizeOf}
 use Rattle.model.specs.Keys.{keyPermits}
-use Rattle.model.specs.NameText.{NameText}
 use Rattle.model.specs.Names.{baseName}
-use Rattle.model.specs.Searches.{enrolled, isUnused, slotOf, slotNamed, primarySlot, dataSpaces, freeSlot, freeRun, freeEntry}
+use Rattle.model.specs.Searches.{isUnused, slotOf, slotNamed, primarySlot, dataSpaces, freeSlot, freeRun, freeEntry}
 use Rattle.model.specs.Tables.{spaceAt, guestAt, cpuAt, cpuPlace, entryAt}
 use Rattle.model.specs.Tokens.{malformed, assigned, entryNumber, tokenUsed}
 use Rattle.model.specs.Translation.{throughStanding, translate}
-use Rattle.model.proofs.Names.{name-decides}
+use Rattle.model.specs.Verdict.{ownRow, row}
 use Rattle.model.proofs.Tokens.{assigned-used}
 
 -- A check, with the number that a call answers where it fails. A call's answer is that of the first that fails.
@@ -62,7 +58,8 @@ module _ (s : State) (g : ℕ) where
   owningChecks i more =
       test 5 (ltb (slotOf (s .spaces) i) 32) ∷ test 6 (eqb (spaceAt (s .spaces) (slotOf (s .spaces) i) .owner) g) ∷ more
 
--- FETCH and STORE: "14, 15, 16, 17, 18", and 22 "after 18". What the token names is read where it names something.
+-- FETCH and STORE: "14, 15, 16, 17, 18", of which 18 is a store's alone, and 22 "after 18". What the token names is read where it
+-- names something.
 abbrev isRevoked : Standing → Bool
 isRevoked Unused = false
 isRevoked (Valid u r) = false
@@ -76,15 +73,17 @@ abbrev rightIn : Translation → Right
 rightIn (Reached u r) = r
 rightIn (Refused a) = Read
 
+abbrev storeChecks : (storing : Bool) → Right → List Check → List Check
+storeChecks true r more = test 18 (writes r) ∷ more
+storeChecks false r more = more
+
 abbrev accessChecks : State → (guest key token address buffer : ℕ) → (storing : Bool) → Translation → List Check
 accessChecks s g key t a n storing x =
     test 14 (not (malformed t))
     ∷ test 15 (either (eqb t 0) (assigned (s .entries) g (guestAt (s .guests) g .list) t))
     ∷ test 16 (either (eqb t 0) (not (isRevoked (entryAt (s .entries) g (entryNumber t) .standing))))
     ∷ test 17 (leb (a + n) (sizeOf (s .spaces) (slotIn x)))
-    ∷ test 18 (implies storing (writes (rightIn x)))
-    ∷ test 22 (keyPermits s storing key (slotIn x) a n)
-    ∷ []
+    ∷ storeChecks storing (rightIn x) (test 22 (keyPermits s storing key (slotIn x) a n) ∷ [])
 
 abbrev transferChecks : State → Caller → (register address buffer : ℕ) → (storing : Bool) → List Check
 transferChecks s c r a n storing = accessChecks s (c .guest) (accessKey s c) (tokenUsed (cpuAt (s .cpus) (cpuPlace c)) r) a n storing (target s c r)
@@ -120,15 +119,15 @@ ownChecks s c (Block id address key mark) n =
     owningChecks s (c .guest) id (test 17 (ltb address (sizeOf (s .spaces) (slotOf (s .spaces) id))) ∷ [])
 
 -- "All check 1, then 2 first"; then each argument, from left to right
-abbrev limits : List Argument → List Check → List Check
-limits [] more = more
-limits (a ∷ rest) more = test (limitNumber (a .kind)) (a .fits) ∷ limits rest more
+abbrev argumentChecks : List Argument → List Check → List Check
+argumentChecks [] more = more
+argumentChecks (a ∷ rest) more = test (limitNumber (a .kind)) (a .fits) ∷ argumentChecks rest more
 
 abbrev pub checks : State → (scratch : ℕ) → Call → (buffer : ℕ) → List Check
 checks s m k n =
     test 1 (ready s m)
     ∷ test 2 (goodCaller s (k .caller) (k .operation))
-    ∷ limits (arguments (s .guests) (k .caller) (k .operation) n) (ownChecks s (k .caller) (k .operation) n)
+    ∷ argumentChecks (arguments (s .guests) (k .caller) (k .operation) n) (ownChecks s (k .caller) (k .operation) n)
 
 none-failed : 0 ≡ firstFailed []
 unfolding firstFailed
@@ -148,10 +147,16 @@ unfolding check
 first true a d cs e = pass (number a) true cs refl e
 first false a d cs e = stop (number a) false cs refl
 
-first-limits : (args : List Argument) (d : Decision) (cs : List Check) → number (d .answer) ≡ firstFailed cs → number (checkAll args d .answer) ≡ firstFailed (limits args cs)
+first-limits : (args : List Argument) (d : Decision) (cs : List Check) → number (d .answer) ≡ firstFailed cs → number (checkAll args d .answer) ≡ firstFailed (argumentChecks args cs)
 unfolding checkAll number
 first-limits [] d cs e = e
-first-limits (a ∷ more) d cs e = first (a .fits) _ _ (limits more cs) (first-limits more d cs e)
+first-limits (a ∷ more) d cs e = first (a .fits) _ _ (argumentChecks more cs) (first-limits more d cs e)
+
+first-store : (storing : Bool) (r : Right) (d : Decision) (cs : List Check) → number (d .answer) ≡ firstFailed cs
+    → number (check (implies storing (writes r)) Protection d .answer) ≡ firstFailed (storeChecks storing r cs)
+unfolding implies check number
+first-store true r d cs e = first (writes r) Protection d cs e
+first-store false r d cs e = e
 
 -- FETCH and STORE, by what the token is
 module _ (s : State) (g key t a n : ℕ) (storing : Bool) (f : ℕ → Effect) where
@@ -159,9 +164,9 @@ module _ (s : State) (g key t a n : ℕ) (storing : Bool) (f : ℕ → Effect) w
   Fine x = number (access s key a n storing f x .answer) ≡ firstFailed (accessChecks s g key t a n storing x)
 
   first-inside : (u : ℕ) (r : Right) → number (accessAt s key a n storing (f u) u r .answer)
-      ≡ firstFailed (test 17 (leb (a + n) (sizeOf (s .spaces) u)) ∷ test 18 (implies storing (writes r)) ∷ test 22 (keyPermits s storing key u a n) ∷ [])
+      ≡ firstFailed (test 17 (leb (a + n) (sizeOf (s .spaces) u)) ∷ storeChecks storing r (test 22 (keyPermits s storing key u a n) ∷ []))
   unfolding accessAt number
-  first-inside u r = first _ Addressing _ _ (first _ Protection _ _ (first _ KeyProtection _ [] none-failed))
+  first-inside u r = first _ Addressing _ _ (first-store storing r _ _ (first _ KeyProtection _ [] none-failed))
 
   first-access : Fine (translate s g t)
   unfolding translate throughStanding access number malformed isUnused
@@ -179,7 +184,7 @@ module _ (s : State) (g key t a n : ℕ) (storing : Bool) (f : ℕ → Effect) w
       standing = entryAt (s .entries) g (entryNumber t) .standing
 
       through : eqb t 0 ≡ false → listed ≡ true → (x : Standing) → standing ≡ x → number (access s key a n storing f (throughStanding x) .answer)
-          ≡ firstFailed (test 16 (either (eqb t 0) (not (isRevoked standing))) ∷ test 17 (leb (a + n) (sizeOf (s .spaces) (slotIn (throughStanding x)))) ∷ test 18 (implies storing (writes (rightIn (throughStanding x)))) ∷ test 22 (keyPermits s storing key (slotIn (throughStanding x)) a n) ∷ [])
+          ≡ firstFailed (test 16 (either (eqb t 0) (not (isRevoked standing))) ∷ test 17 (leb (a + n) (sizeOf (s .spaces) (slotIn (throughStanding x)))) ∷ storeChecks storing (rightIn (throughStanding x)) (test 22 (keyPermits s storing key (slotIn (throughStanding x)) a n) ∷ []))
       through z l Unused e = true-false (ap isUnused e) (assigned-used (s .entries) g (guestAt (s .guests) g .list) t l)
       through z l (Valid u r) e = pass 16 _ _ (either-right _ _ (ap (λ y. not (isRevoked y)) e)) (first-inside u r)
       through z l Revoked e = stop 16 _ _ (either-none _ _ z (ap (λ y. not (isRevoked y)) e))
@@ -210,3 +215,30 @@ unfolding decide judge number
 answer-first s m k n =
     first _ Unsound _ _ (first _ BadCaller _ _
     (first-limits (arguments (s .guests) (k .caller) (k .operation) n) _ _ (first-performed s (k .caller) (k .operation) n)))
+
+-- A call's row has the numbers of its checks, in their order, and no other.
+abbrev numbers : List Check → List ℕ
+numbers [] = []
+numbers (c ∷ cs) = c .answer ∷ numbers cs
+
+own-row : (s : State) (c : Caller) (k : Operation) (n : ℕ) → ownRow k ≡ numbers (argumentChecks (arguments (s .guests) c k n) (ownChecks s c k n))
+unfolding ownRow arguments limitNumber
+own-row s c (Enrol x) n = refl
+own-row s c (Create name pages) n = refl
+own-row s c (Destroy id) n = refl
+own-row s c (Permit id guest right) n = refl
+own-row s c (Isolate id) n = refl
+own-row s c (Query owner name) n = refl
+own-row s c (Add id right) n = refl
+own-row s c (Remove token) n = refl
+own-row s c (Load register value) n = refl
+own-row s c (Mode m) n = refl
+own-row s c (Fetch register address) n = refl
+own-row s c (Store register address) n = refl
+own-row s c Reset n = refl
+own-row s c (Key key) n = refl
+own-row s c (Block id address key mark) n = refl
+
+pub row-checks : (s : State) (m : ℕ) (k : Call) (n : ℕ) → row (k .operation) ≡ 0 ∷ numbers (checks s m k n)
+unfolding row
+row-checks s m k n = ap (λ r. 0 ∷ 1 ∷ 2 ∷ r) (own-row s (k .caller) (k .operation) n)

@@ -22,6 +22,7 @@ pub mod Blocks
 pub mod Tokens
 pub mod Rights
 pub mod Fresh
+pub mod SessionFrames
 pub mod Lawful
 pub mod Sound
 pub mod StoreFetch

@@ -2,7 +2,7 @@
 use Prim.Native.Nat.{ℕ, _≤_}
 use mathlib.Core.Bool.{Bool, true, false}
 use mathlib.Core.List.{List, [], _∷_}
-use mathlib.Core.Path.{_≡_, refl, sym, ap, _∙_}
+use mathlib.Core.Path.{_≡_, refl, _∙_}
 use Rattle.lists.specs.Decides.{Decides}
 use Rattle.lists.proofs.Choice.{true-false, not-so}
 use Rattle.lists.proofs.Decides.{d-le, d-eq, d-is, d-not, d-both}

@@ -5,23 +5,22 @@ use mathlib.Core.Logic.{_≢_}
 use mathlib.Core.Path.{_≡_, refl, sym, ap, _∙_}
 use lib.ListN.{length}
 use borrow.Author.Tests.{eq-eqb}
-use Rattle.lists.specs.Choice.{both, either}
+use Rattle.lists.specs.Choice.{either}
 use Rattle.lists.proofs.Choice.{true-false}
 use Rattle.model.specs.declared.Answer.{Answer}
 use Rattle.model.specs.declared.Answer.the-variants.{Done, Unsound, BadCaller, Limit, NameTaken, NoSpace, NotOwner, NoSharing, AllowanceUsed, SlotsUsed, NoRun, NoIdentification, NotPermitted, ListFull, AletSpecification, AlenTranslation, AddressingCapability, Addressing, Protection, SpecialOperation, PrimarySpace, LineNotRead, KeyProtection}
 use Rattle.model.specs.declared.Call.{Call}
 use Rattle.model.specs.declared.Caller.{Caller}
-use Rattle.model.specs.declared.Kind.{Kind}
-use Rattle.model.specs.declared.Kind.the-variants.{Pages, Allowance, ListSize, Flag, Name, Register, Length, OtherGuest, Frames, Key as AnyKey}
 use Rattle.model.specs.declared.Operation.{Operation}
 use Rattle.model.specs.declared.Operation.the-variants.{Enrol, Create, Destroy, Permit, Isolate, Query, Add, Remove, Load, Mode, Fetch, Store, Reset, Key, Block}
 use Rattle.model.specs.declared.State.{State}
-use Rattle.model.specs.Answers.{limitNumber, namesArgument, number, value}
+use Rattle.model.specs.Answers.{namesArgument, number, value}
 use Rattle.model.specs.Calls.{decide, ready}
 use Rattle.model.specs.Decision.{Decision, refuse, check}
 use Rattle.model.specs.Granted.{Performed, Granted}
 use Rattle.model.specs.Step.{Machine, Issue, outcome, step, scratchAfter, bufferAfter}
 use Rattle.model.specs.Verdict.{row, listed, Verdict, refused, granted}
+use Rattle.model.proofs.Answers.{argument-named}
 use Rattle.model.proofs.Verdict.{verdict}
 
 -- a done call's answer
@@ -72,20 +71,6 @@ module _ (s : State) (m : ℕ) (k : Call) (n : ℕ) where
   pub unready : ready s m ≡ false → decide s m k n ≡ refuse Unsound
   unfolding decide check
   unready e = rw e
-
--- an argument outside its limits has one of the numbers 31 to 40
-argument-named : (k : Kind) → namesArgument (limitNumber k) ≡ true
-unfolding limitNumber namesArgument both
-argument-named Pages = refl
-argument-named Allowance = refl
-argument-named ListSize = refl
-argument-named Flag = refl
-argument-named Name = refl
-argument-named Register = refl
-argument-named Length = refl
-argument-named OtherGuest = refl
-argument-named Frames = refl
-argument-named AnyKey = refl
 
 -- a refusal's value, unless it names an argument
 pub refused-value : (a : Answer) → number a ≢ 0 → namesArgument (number a) ≡ false → value a ≡ 0

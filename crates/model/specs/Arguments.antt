@@ -1,5 +1,5 @@
--- Paper 02, M-102, "Tell us which field was wrong": the arguments of each call, what is asked of each, and its place. They are
--- checked from left to right, after check 2.
+-- The arguments of each call with their limits, which are paper 01's and M-100's; and of paper 02, M-102, "Tell us which field was
+-- wrong", their kinds and places. They are checked from left to right, after check 2.
 use Prim.Native.Nat.{ℕ, suc}
 use mathlib.Core.Bool.{Bool, not}
 use mathlib.Core.List.{List, [], _∷_}

@@ -14,9 +14,9 @@ use Rattle.model.specs.Decision.{Decision, refuse}
 
 -- What each call may answer after the checks 1 and 2, in the paper's order. The paper's row for FETCH and STORE lists 18, which a
 -- fetch never gives. Paper 02, M-100: "22, key protection, in FETCH and STORE after 18"; "BLOCK then 5, 6, 17"; M-102: for the
--- arguments, from left to right, "31 to 40".
+-- arguments, from left to right, "31 to 40"; ENROL has 34 twice, for share and for ASF.
 unfoldable pub ownRow : Operation → List ℕ
-ownRow (Enrol x) = 31 ∷ 32 ∷ 34 ∷ 33 ∷ 9 ∷ 11 ∷ 10 ∷ []
+ownRow (Enrol x) = 31 ∷ 32 ∷ 34 ∷ 33 ∷ 34 ∷ 9 ∷ 11 ∷ 10 ∷ []
 ownRow (Create name pages) = 35 ∷ 31 ∷ 4 ∷ 8 ∷ 9 ∷ 11 ∷ 10 ∷ []
 ownRow (Destroy id) = 5 ∷ 6 ∷ 20 ∷ []
 ownRow (Permit id guest right) = 38 ∷ 5 ∷ 6 ∷ 7 ∷ []

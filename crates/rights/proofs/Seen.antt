@@ -29,7 +29,7 @@ use Rattle.model.specs.declared.State.{State}
 use Rattle.model.specs.Arguments.{goodOther, arguments, checkAll}
 use Rattle.model.specs.Calls.{judge, enrols, perform, permit, isolate, query, add, remove, entitled}
 use Rattle.model.specs.Changes.{allows, raised, released, applied}
-use Rattle.model.specs.Decision.{Decision, refuse, check, done}
+use Rattle.model.specs.Decision.{Decision, check, done}
 use Rattle.model.specs.Names.{goodName}
 use Rattle.model.specs.Replies.{reply, replied, callOf}
 use Rattle.model.specs.Searches.{enrolled, slotOf, slotNamed, freeEntry}
