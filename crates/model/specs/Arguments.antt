@@ -29,9 +29,6 @@ pub record Argument : Type 0 where
   pub kind : Kind
   pub place : ℕ
 
-abbrev pub argument : Bool → Kind → ℕ → Argument
-argument b k p = record { fits = b; kind = k; place = p }
-
 -- "pages 1-512"
 abbrev pub goodPages : ℕ → Bool
 goodPages n = both (leb 1 n) (leb n maxPages)

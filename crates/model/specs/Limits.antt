@@ -26,6 +26,7 @@ pub record Limit : Type 1 where
 abbrev pub limit : (number value : ℕ) → Type 0 → Limit
 limit n v P = record { number = n; value = v; met = P }
 
+-- the limits of each call's arguments, from left to right
 abbrev pub limits : List Guest → Caller → Operation → (buffer : ℕ) → List Limit
 limits gs c (Enrol x) n =
     limit 31 2 ((1 ≤ x .pages) × (x .pages ≤ 512))
