@@ -2,10 +2,10 @@
 use Prim.Native.Nat.{ℕ, _+_, _≤_}
 use mathlib.Core.Bool.{Bool, true, false, not}
 use mathlib.Core.List.{List, [], _∷_}
-use mathlib.Core.Path.{_≡_, refl}
+use mathlib.Core.Path.{_≡_, refl, ap}
 use native.Mathlib.Omega.{arith}
 use lib.Dec.{leb, ltb, eqb}
-use borrow.Author.Tests.{eqb-true, eqb-false, eq-eqb, leb-true, ltb-true}
+use borrow.Author.Tests.{eqb-true, eqb-false, eq-eqb, ne-eqb, leb-true, ltb-true}
 use Rattle.lists.specs.Choice.{both, either, implies}
 use Rattle.lists.proofs.Choice.{true-false, not-to, both-left, both-right, either-not-left, either-not-right, implies-to, implies-not, choose-elim}
 use Rattle.model.specs.declared.Answer.{Answer}
@@ -15,7 +15,6 @@ use Rattle.model.specs.declared.Caller.{Caller}
 use Rattle.model.specs.declared.Change.{Change}
 use Rattle.model.specs.declared.Change.the-variants.{Keep}
 use Rattle.model.specs.declared.Kind.{Kind}
-use Rattle.model.specs.declared.Kind.the-variants.{Pages, Allowance, ListSize, Flag, Name, Register, Length, OtherGuest, Frames, Key as AnyKey}
 use Rattle.model.specs.declared.Operation.{Operation}
 use Rattle.model.specs.declared.Operation.the-variants.{Enrol, Create, Destroy, Permit, Isolate, Query, Add, Remove, Load, Mode, Fetch, Store, Reset, Key, Block}
 use Rattle.model.specs.declared.Right.{Right}
@@ -25,7 +24,7 @@ use Rattle.model.specs.declared.Standing.the-variants.{Unused, Valid, Re
 use Rattle.model.specs.declared.State.{State}
 use Rattle.model.specs.declared.Translation.{Translation}
 use Rattle.model.specs.declared.Translation.the-variants.{Reached, Refused}
-use Rattle.model.specs.Answers.{limitNumber, number}
+use Rattle.model.specs.Answers.{limitNumber, namesArgument, number}
 use Rattle.model.specs.Arguments.{Argument, arguments, checkAll}
 use Rattle.model.specs.Calls.{making, enrol, create, owning, destroy, permit, isolate, entitled, query, add, remove, load, mode, writes, accessAt, access, target, accessKey, fetching, storing, reset, setKey, block, perform, goodCaller, judge, ready, decide}
 use Rattle.model.specs.Decision.{Decision, Effect, fetch, store, refuse, accept, check}
@@ -38,6 +37,7 @@ use Rattle.model.specs.Tables.{spaceAt, guestAt, entryAt}
 use Rattle.model.specs.Tokens.{malformed, assigned, entryNumber}
 use Rattle.model.specs.Translation.{throughStanding, translate}
 use Rattle.model.specs.Verdict.{row, ownRow, listed, Verdict, refused, granted}
+use Rattle.model.proofs.Answers.{argument-named}
 
 -- a check refuses with its own answer, or the rest decides
 pub check-verdict : (row : List ℕ) (Good : Decision → Type 0) (b : Bool) (a : Answer) (d : Decision)
@@ -56,17 +56,8 @@ listsKinds [] row = true
 listsKinds (a ∷ more) row = both (listed (limitNumber (a .kind)) row) (listsKinds more row)
 
 not-done : (k : Kind) → eqb (limitNumber k) 0 ≡ false
-unfolding limitNumber
-not-done Pages = refl
-not-done Allowance = refl
-not-done ListSize = refl
-not-done Flag = refl
-not-done Name = refl
-not-done Register = refl
-not-done Length = refl
-not-done OtherGuest = refl
-not-done Frames = refl
-not-done AnyKey = refl
+unfolding namesArgument both
+not-done k = ne-eqb (limitNumber k) 0 (λ e. true-false (argument-named k) (ap namesArgument e))
 
 check-all : (row : List ℕ) (Good : Decision → Type 0) (args : List Argument) (d : Decision) → listsKinds args row ≡ true → (AllFit args → Verdict row Good d) → Verdict row Good (checkAll args d)
 unfolding checkAll AllFit number
