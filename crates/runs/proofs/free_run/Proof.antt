@@ -6,10 +6,10 @@ use Rattle.runs.proofs.free_run.Statement.{statement}
 use Rattle.runs.proofs.free_run.Tie as tie
 
 abbrev Inv-loop : tie.InvT-loop
-Inv-loop frames pages spaces last first₀ u₀ first u = Tried frames spaces pages first u × (first ≤ last) × (u ≤ 32)
+Inv-loop frames pages spaces last first₀ u₀ clear₀ first u clear = Tried frames spaces pages first u clear × (first ≤ last)
 
 abbrev μ-loop : tie.MeasureT-loop
-μ-loop frames pages spaces last first₀ u₀ first u = left last first u
+μ-loop frames pages spaces last first₀ u₀ clear₀ first u clear = left last first clear
 
 returns : tie.Need-returns Inv-loop μ-loop
 returns c = search runs
@@ -42,10 +42,13 @@ free-run-spec =
     loop-holds
     (λ c. search needs)
     (λ c. search needs)
+    (λ c. search needs)
+    (λ c. search needs)
+    (λ c. search needs)
+    (λ c. search needs)
+    (λ c. search needs)
     (λ c κs. search needs)
-    (λ c. search needs)
-    (λ c. search needs)
-    (λ c. search needs)
+    (λ c κs. search needs)
     returns-2
     loop-less
     loop-again
