@@ -48,7 +48,8 @@ pub fn done(edit: Edit) -> Edited
     }
 }
 
-// The reply of the call, of a state that is handed over.
+// The reply of the call, of a state that is handed over. It is changed where it stands, and one reply is made of it at the end: a
+// reply in each arm would be one more copy of it.
 pub fn carried(mut s: State, e: Edited) -> Reply
     requires { ⌜ Fits (e .edit) ⌝ }
     ensures { λ r. ⌜ r ≡ reply (e .answer) (applied s (changeOf (e .edit))) ⌝ }
@@ -56,14 +57,12 @@ pub fn carried(mut s: State, e: Edited) -> Reply
     let answer = e.answer;
     let edit = e.edit;
     match edit {
-        Edit::Nothing => Reply { answer, state: s },
+        Edit::Nothing => {}
         Edit::Permit { place, permit } => {
             s.permits[place as usize] = permit;
-            Reply { answer, state: s }
         }
         Edit::Entry { place, entry } => {
             s.entries[place as usize] = entry;
-            Reply { answer, state: s }
         }
         Edit::Register {
             cpu,
@@ -74,25 +73,22 @@ pub fn carried(mut s: State, e: Edited) -> Reply
             let mut c = s.cpus[k];
             c.registers[register as usize] = value;
             s.cpus[k] = c;
-            Reply { answer, state: s }
         }
         Edit::Mode { cpu, mode } => {
             let k = cpu as usize;
             let mut c = s.cpus[k];
             c.mode = mode;
             s.cpus[k] = c;
-            Reply { answer, state: s }
         }
         Edit::Key { cpu, key } => {
             let k = cpu as usize;
             let mut c = s.cpus[k];
             c.key = key;
             s.cpus[k] = c;
-            Reply { answer, state: s }
         }
         Edit::Cell { place, cell } => {
             s.cells[place as usize] = cell;
-            Reply { answer, state: s }
         }
     }
+    Reply { answer, state: s }
 }
