@@ -1,33 +1,41 @@
--- ENROL's check 2 and those of its arguments, and what it has made where they passed. Assumes nothing.
-use Prim.Native.Nat.{ℕ, _≤_, _<_}
+-- ENROL's checks on the tables that they look at. Assumes nothing.
+use Prim.Native.Nat.{ℕ, _-_, _≤_, _<_}
 use mathlib.Core.Bool.{Bool, true, false, not}
-use mathlib.Core.List.{List}
+use mathlib.Core.List.{List, []}
 use mathlib.Core.Logic.{_≢_}
-use mathlib.Core.Path.{_≡_, refl, sym, _∙_}
+use mathlib.Core.Path.{_≡_, refl, subst, sym, _∙_}
 use native.Mathlib.Omega.{arith}
-use lib.Dec.{leb, eqb}
+use lib.Dec.{leb}
 use lib.ListN.{set}
 use borrow.Author.Tests.{leb-true}
 use Rattle.lists.specs.Choice.{choose, both}
 use Rattle.lists.proofs.Choice.{not-so, yes!, no!, both-left, both-right}
-use Rattle.model.specs.declared.Answer.the-variants.{BadCaller, Limit}
+use Rattle.model.specs.declared.Answer.{Answer}
+use Rattle.model.specs.declared.Answer.the-variants.{Done, BadCaller, Limit}
 use Rattle.model.specs.declared.Caller.{Caller}
 use Rattle.model.specs.declared.Guest.{Guest}
 use Rattle.model.specs.declared.Kind.{Kind}
 use Rattle.model.specs.declared.Kind.the-variants.{Pages, Allowance, ListSize, Flag}
 use Rattle.model.specs.declared.Operation.the-variants.{Enrol}
-use Rattle.model.specs.declared.Reply.{Reply}
 use Rattle.model.specs.declared.Settings.{Settings}
+use Rattle.model.specs.declared.Space.{Space}
 use Rattle.model.specs.declared.State.{State}
 use Rattle.model.specs.Arguments.{arguments, checkAll}
-use Rattle.model.specs.Calls.{enrol, perform, enrols, mayEnrol, goodCaller, judge, newGuest}
+use Rattle.model.specs.Calls.{enrol, enrolling, making, perform, enrols, mayEnrol, goodCaller, judge, newGuest}
+use Rattle.model.specs.Changes.{spaceAdded}
 use Rattle.model.specs.Decision.{Decision, refuse, check}
 use Rattle.model.specs.Names.{baseName}
+use Rattle.model.specs.Leaves.{inRun}
 use Rattle.model.specs.Replies.{reply, callOf, Carried}
-use Rattle.model.specs.Tables.{guestAt, guestPlace}
-use Rattle.model.proofs.Rules.{refused, stops, goes}
-use Rattle.enrolling.specs.Enrolling.{newPlace, wrongOf, kindAt}
-use Rattle.making.specs.Made.{Makes}
+use Rattle.model.specs.SoundTest.{sound}
+use Rattle.model.specs.Step.{clearFrames}
+use Rattle.model.specs.Tables.{guestAt, guestPlace, withGuests}
+use Rattle.model.proofs.Rules.{check-yes, check-no}
+use Rattle.enrolling.specs.Enrolling.{newPlace, wrongOf, kindAt, Decides, EnrolsTo}
+use Rattle.making.specs.declared.Placed.{Placed}
+use Rattle.making.specs.declared.Placed.the-variants.{Refused, At}
+use Rattle.making.specs.Placing.{Shows, PlacedTo}
+use Rattle.making.proofs.Done as making
 
 -- check 2
 module _ (gs : List Guest) (g at : ℕ) (is : at ≡ newPlace gs g) where
@@ -100,29 +108,63 @@ module _ (x : Settings) (w : ℕ) (is : w ≡ wrongOf x) (none : w ≡ 0) where
   pub list-small : x .list < 256
   list-small = omega (arith, leb-true (x .list) 30 (both-right (leb 1 (x .list)) _ (right .3)))
 
-module _ (s : State) (c : Caller) (x : Settings) (gs : List Guest) (at : ℕ) (m : List ℕ) where
-  abbrev Made : Reply → List ℕ → Type 0
-  Made r m' = Carried s (judge s (callOf c (Enrol x)) 0) r m m'
+-- the call, on the tables that it looks at
+module _ (F next : ℕ) (ss : List Space) (gs : List Guest) (c : Caller) (x : Settings) (at : ℕ) (e : at ≡ newPlace gs (c .guest)) where
+  abbrev Stops : Answer → Type 0
+  Stops a = (s : State) → Shows s F next ss → s .guests ≡ gs → judge s (callOf c (Enrol x)) 0 ≡ refuse a
 
-  pub enrol-caller : at ≡ newPlace gs (c .guest) → gs ≡ s .guests → 8 ≤ at → Made (reply BadCaller s) m
+  pub enrol-caller : 8 ≤ at → Stops BadCaller
   unfolding judge goodCaller enrols choose mayEnrol
-  enrol-caller e q l = stops s _ _ _ m (rw (← q) (may-not gs (c .guest) at e l))
+  enrol-caller l s h q = check-no _ _ (rw q (may-not gs (c .guest) at e l))
 
-  may-enrol : at ≡ newPlace gs (c .guest) → gs ≡ s .guests → at < 8 → mayEnrol s (c .guest) ≡ true
-  unfolding mayEnrol
-  may-enrol e q l = rw (← q) (new-may gs (c .guest) at e l)
+  module _ (l : at < 8) (w : ℕ) (we : w ≡ wrongOf x) where
+    may-enrol : (s : State) → s .guests ≡ gs → mayEnrol s (c .guest) ≡ true
+    unfolding mayEnrol
+    may-enrol s q = rw q (new-may gs (c .guest) at e l)
 
-  pub enrol-wrong : (w : ℕ) (k : Kind) → at ≡ newPlace gs (c .guest) → gs ≡ s .guests → at < 8 → w ≡ wrongOf x → (w ≡ 0 → ⊥) → k ≡ kindAt w → Made (reply (Limit k w) s) m
-  unfolding judge goodCaller enrols choose arguments checkAll wrongOf
-  enrol-wrong w k e q l we wn ke =
-      goes _ s _ _ _ m m (may-enrol e q l)
-      (rw (ke, we) (refused s _ (Limit (kindAt (wrongOf x)) (wrongOf x)) m (first-wrong _ _ _ _ _ _ (λ z. wn (we ∙ z)))))
+    pub enrol-wrong : (k : Kind) → (w ≡ 0 → ⊥) → k ≡ kindAt w → Stops (Limit k w)
+    unfolding judge goodCaller enrols choose arguments checkAll wrongOf
+    enrol-wrong k wn ke s h q = check-yes _ _ (may-enrol s q) ∙ rw (ke, we) (first-wrong _ _ _ _ _ _ (λ z. wn (we ∙ z)))
 
-  pub enrol-done : (w : ℕ) (r : Reply) (m' : List ℕ) → at ≡ newPlace gs (c .guest) → gs ≡ s .guests → at < 8 → w ≡ wrongOf x → w ≡ 0
-      → Makes s (set gs at (record { enrolled = true; allowance = x .allowance; share = eqb (x .share) 1; list = x .list; asf = eqb (x .asf) 1 })) (c .guest) baseName (x .pages) r m m' → Made r m'
-  unfolding judge goodCaller enrols choose arguments checkAll perform enrol newGuest
-  enrol-done w r m' e q l we wz inner =
-      let f = right x w we wz in
-      goes r s _ _ _ m m' (may-enrol e q l)
-      (goes r s _ _ _ m m' (f .0) (goes r s _ _ _ m m' (f .1) (goes r s _ _ _ m m' (f .2) (goes r s _ _ _ m m' (f .3) (goes r s _ _ _ m m' (f .4)
-      ((rw (q, new-is gs (c .guest) at e l) at inner) _ refl))))))
+    passed : w ≡ 0 → (s : State) → s .guests ≡ gs → judge s (callOf c (Enrol x)) 0 ≡ making s (x .pages) (enrolling s (c .guest) x)
+    unfolding judge goodCaller enrols choose arguments checkAll perform enrol
+    passed z s q =
+        let f = right x w we z in
+        check-yes _ _ (may-enrol s q) ∙ check-yes _ _ (f .0) ∙ check-yes _ _ (f .1) ∙ check-yes _ _ (f .2) ∙ check-yes _ _ (f .3) ∙ check-yes _ _ (f .4)
+
+    pub enrol-placed : w ≡ 0 → (r : Placed) → PlacedTo F next ss (c .guest) baseName (x .pages) r → EnrolsTo F next ss gs c x r
+    enrol-placed z (Refused a) p = λ s h q. passed z s q ∙ p s h (enrolling s (c .guest) x)
+    enrol-placed z (At u y) p = (
+      sym we ∙ z,
+      λ s h q. record { guest = record { low = guest-low gs (c .guest) at e (new-may gs (c .guest) at e l); high = new-owner gs (c .guest) at e l }; judged = passed z s q; placed = p s h },
+    )
+
+-- what was decided, in the state that has the tables
+module _ (s : State) (c : Caller) (x : Settings) (r : Placed) (d : EnrolsTo (s .frames) (s .next) (s .spaces) (s .guests) c x r) where
+  decides : (y : Placed) → EnrolsTo (s .frames) (s .next) (s .spaces) (s .guests) c x y → Decides (s .frames) (s .next) (s .spaces) (s .guests) c x y
+  decides (Refused a) h = h
+  decides (At u y) h = h .1
+
+  pub enrol-decides : Decides (s .frames) (s .next) (s .spaces) (s .guests) c x r
+  enrol-decides = decides r d
+
+  module _ (u : ℕ) (y : Space) (e : r ≡ At u y) where
+    settled : wrongOf x ≡ 0
+    settled = subst (EnrolsTo (s .frames) (s .next) (s .spaces) (s .guests) c x) e d .0
+
+    pub allowance-fits : x .allowance < 256
+    allowance-fits = allowance-small x (wrongOf x) refl settled
+
+    pub list-fits : x .list < 256
+    list-fits = list-small x (wrongOf x) refl settled
+
+    -- the guest's number, and where it stands
+    pub number-low : 1 ≤ c .guest
+    number-low = making.guest-low s (callOf c (Enrol x)) baseName (x .pages) (λ t. enrolling t (c .guest) x) r enrol-decides [] u y e
+
+    pub place-low : c .guest - 1 < 8
+    place-low = omega (arith, making.guest-high s (callOf c (Enrol x)) baseName (x .pages) (λ t. enrolling t (c .guest) x) r enrol-decides [] u y e)
+
+    pub enrol-done : (g : Guest) (m m' : List ℕ) → g ≡ newGuest x → sound s ≡ true → m' ≡ clearFrames (inRun (y .first) (y .pages)) m
+        → Carried s (judge s (callOf c (Enrol x)) 0) (reply (Done (y .id)) (spaceAdded (withGuests s (set (s .guests) (guestPlace (c .guest)) g)) u y)) m m'
+    enrol-done g m m' is ok cleared = rw is (making.makes s (callOf c (Enrol x)) baseName (x .pages) (λ t. enrolling t (c .guest) x) r enrol-decides m u y e _ m' refl ok cleared)

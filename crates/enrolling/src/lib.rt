@@ -1,13 +1,14 @@
 // ENROL, for callers that hold a sound state and its scratch.
-ghost use Prim.Native.Nat.{_*_};
+ghost use Prim.Native.Nat.{_*_, _≤_, _<_};
 ghost use mathlib.Core.Bool.{true};
 ghost use mathlib.Core.Path.{_≡_};
 ghost use lib.ListN.{length};
-ghost use Rattle.enrolling.specs.Enrolling.{newPlace, wrongOf, kindAt};
-ghost use Rattle.model.specs.Calls.{judge};
+ghost use Rattle.enrolling.specs.Enrolling.{newPlace, wrongOf, kindAt, EnrolsTo};
+ghost use Rattle.model.specs.Calls.{judge, newGuest};
 ghost use Rattle.model.specs.Replies.{callOf, Carried};
 ghost use Rattle.model.specs.SoundTest.{sound};
 ghost use Rattle.model.specs.declared.Operation.the-variants.{Enrol};
+use making::Placed;
 use model::Answer;
 use model::BASE;
 use model::Caller;
@@ -15,6 +16,7 @@ use model::Guest;
 use model::Kind;
 use model::Reply;
 use model::Settings;
+use model::Space;
 use model::State;
 
 // Whether ENROL may be made for a guest: 1 to 8 and not enrolled. Its place, 8 where it may not.
@@ -78,34 +80,63 @@ fn kind_at(place: u8) -> Kind
     Kind::Flag
 }
 
-pub fn enrol(s: State, scratch: &mut [u8], caller: Caller, settings: Settings) -> Reply
-    requires { ⌜ (sound s ≡ true) × (length (now scratch) ≡ s .frames * 4096) ⌝ }
-    ensures { λ r. ⌜ Carried s (judge s (callOf caller (Enrol settings)) 0) r (now (scratch .entry)) (now (scratch .exit)) ⌝ }
+// The guest, of settings inside their limits.
+fn new_guest(x: Settings) -> Guest
+    requires { ⌜ (x .allowance < 256) × (x .list < 256) ⌝ }
+    ensures { λ r. ⌜ r ≡ newGuest x ⌝ }
 {
-    let mut gs = s.guests;
-    let at = new_place(gs, caller.guest);
+    Guest {
+        enrolled: true,
+        allowance: x.allowance as u8,
+        share: x.share == 1,
+        list: x.list as u8,
+        asf: x.asf == 1,
+    }
+}
+
+// All its checks, on the tables that they look at.
+fn decide(
+    spaces: [Space; 32],
+    guests: [Guest; 8],
+    frames: u32,
+    next: u32,
+    caller: Caller,
+    settings: Settings,
+) -> Placed
+    requires { ⌜ frames ≤ 512 ⌝ }
+    ensures { λ r. ⌜ EnrolsTo frames next spaces guests caller settings r ⌝ }
+{
+    let at = new_place(guests, caller.guest);
     if 8 <= at {
-        return Reply {
-            answer: Answer::BadCaller,
-            state: s,
-        };
+        return Placed::Refused(Answer::BadCaller);
     }
     let wrong = wrong_setting(settings);
     if wrong != 0 {
-        return Reply {
-            answer: Answer::Limit {
-                kind: kind_at(wrong),
-                place: wrong,
-            },
-            state: s,
-        };
+        return Placed::Refused(Answer::Limit {
+            kind: kind_at(wrong),
+            place: wrong,
+        });
     }
-    gs[at] = Guest {
-        enrolled: true,
-        allowance: settings.allowance as u8,
-        share: settings.share == 1,
-        list: settings.list as u8,
-        asf: settings.asf == 1,
+    making::place(spaces, frames, next, caller.guest, BASE, settings.pages)
+}
+
+// The state is changed where it stands, and one reply is made of it at the end: any other reply would be one more copy of it.
+pub fn enrol(mut s: State, scratch: &mut [u8], caller: Caller, settings: Settings) -> Reply
+    requires { ⌜ (sound s ≡ true) × (length (now scratch) ≡ s .frames * 4096) ⌝ }
+    ensures { λ r. ⌜ Carried s (judge s (callOf caller (Enrol settings)) 0) r (now (scratch .entry)) (now (scratch .exit)) ⌝ }
+{
+    let spaces = s.spaces;
+    let guests = s.guests;
+    let answer = match decide(spaces, guests, s.frames, s.next, caller, settings) {
+        Placed::Refused(refusal) => refusal,
+        Placed::At { slot, space } => {
+            frames::clear(scratch, space.first as usize, space.pages as usize);
+            let at = (caller.guest - 1) as usize;
+            s.guests[at] = new_guest(settings);
+            s.next = s.next + 1;
+            s.spaces[slot as usize] = space;
+            Answer::Done { value: space.id }
+        }
     };
-    making::make(s, gs, scratch, caller.guest, BASE, settings.pages)
+    Reply { answer, state: s }
 }

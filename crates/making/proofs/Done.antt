@@ -1,72 +1,106 @@
--- What is made where the checks 9, 11 and 10 passed is what the model says. Assumes nothing.
+-- What is made where all checks passed is what the model says. Assumes nothing.
 use Prim.Native.Nat.{ℕ, _+_, _*_, _≤_, _<_}
 use mathlib.Core.Bool.{true}
 use mathlib.Core.List.{List}
-use mathlib.Core.Path.{_≡_, refl, sym, ap, ap₂, fun-ext, _∙_}
+use mathlib.Core.Path.{_≡_, refl, subst, sym, ap, ap₂, fun-ext, _∙_}
 use native.Mathlib.Omega.{arith}
 use lib.ListN.{length}
 use lib.Seq.{getD-set-same}
 use borrow.Author.Tests.{lt-ltb}
+use Rattle.model.specs.declared.Answer.{Answer}
 use Rattle.model.specs.declared.Answer.the-variants.{Done}
+use Rattle.model.specs.declared.Call.{Call}
+use Rattle.model.specs.declared.Change.{Change}
 use Rattle.model.specs.declared.Guest.{Guest}
 use Rattle.model.specs.declared.Space.{Space}
 use Rattle.model.specs.declared.State.{State}
-use Rattle.model.specs.Calls.{newSpace, making}
-use Rattle.model.specs.Changes.{spaceAdded}
+use Rattle.model.specs.Calls.{newSpace, making, judge}
+use Rattle.model.specs.Changes.{spaceAdded, applied}
 use Rattle.model.specs.Frames.{layout, hasFrame}
 use Rattle.model.specs.Leaves.{inRun}
-use Rattle.model.specs.Replies.{reply, replied}
-use Rattle.model.specs.Searches.{freeSlot, freeRun, runIn}
+use Rattle.model.specs.Replies.{reply, replied, Carried}
+use Rattle.model.specs.Searches.{freeSlot, freeRun}
 use Rattle.model.specs.SoundTest.{sound}
 use Rattle.model.specs.Step.{clearFrames, scratchAfter}
 use Rattle.model.specs.Tables.{noSpace, spaceAt, withGuests}
-use Rattle.model.proofs.Rules.{goes}
+use Rattle.model.proofs.Rules.{goes, refused}
 use Rattle.model.proofs.Runs.{lowest-run, has-run}
 use Rattle.model.proofs.SoundTest.{sound-decides}
-use Rattle.making.specs.Made.{Makes}
+use Rattle.making.specs.declared.Placed.{Placed}
+use Rattle.making.specs.declared.Placed.the-variants.{Refused, At}
+use Rattle.making.specs.Placing.{Shows, PlacedAt, Granted, DecidedTo}
 
--- the run of a new space lies in scratch
-module _ (s : State) (guests : List Guest) (owner name pages slot first : ℕ) (m : List ℕ)
-    (slot-is : slot ≡ freeSlot (s .spaces)) (slot-lt : slot < 32) (next-lt : s .next < 65536)
-    (first-is : first ≡ runIn (s .frames) (s .spaces) (s .spaces) pages) (first-lt : first < s .frames)
-    (ok : sound s ≡ true) (room : length m ≡ s .frames * 4096) where
-  abbrev new : Space
-  new = record { id = s .next; owner = owner; name = name; first = first; pages = pages }
-
-  abbrev t : State
-  t = spaceAdded (withGuests s guests) slot new
-
-  state-is : spaceAdded (withGuests s guests) (freeSlot (s .spaces)) (newSpace s owner name pages) ≡ t
+module _ (s : State) (owner name pages u : ℕ) (x : Space) (m : List ℕ) (at : PlacedAt s owner name pages u x) where
+  clear-fits : length m ≡ s .frames * 4096 → x .first * 4096 + x .pages * 4096 ≤ length m
   unfolding newSpace
-  state-is = rw (slot-is, first-is) refl
+  clear-fits room = let q = lowest-run s pages .found (at .run) .inside in rw (at .space) (omega (arith, room, q))
 
-  pub clear-fits : first * 4096 + pages * 4096 ≤ length m
-  clear-fits =
-      let run : freeRun s pages < s .frames = rw (← first-is) first-lt in
-      let q = lowest-run s pages .found run .inside in
-      let e : freeRun s pages ≡ first = sym first-is in
-      omega (arith, room, q, e)
+  -- hs are the guests after the change c, which makes the space
+  module _ (hs : List Guest) (c : Change) (to : applied s c ≡ spaceAdded (withGuests s hs) (freeSlot (s .spaces)) (newSpace s owner name pages)) (ok : sound s ≡ true) where
+    abbrev t : State
+    t = spaceAdded (withGuests s hs) u x
 
-  long : length (s .spaces) ≡ 32
-  long = sound-decides s .to ok .spaces .len
+    made-is : applied s c ≡ t
+    made-is = to ∙ rw (at .slot, at .space) refl
 
-  at-slot : spaceAt (t .spaces) slot ≡ new
-  at-slot = getD-set-same (s .spaces) slot new noSpace (rw long slot-lt)
+    at-slot : spaceAt (t .spaces) u ≡ x
+    at-slot = getD-set-same (s .spaces) u x noSpace (rw (sound-decides s .to ok .spaces .len) (at .low))
 
-  frames-are : inRun first pages ≡ hasFrame (layout t) (t .spaces) slot
-  frames-are = fun-ext (λ f. sym (has-run (t .spaces) slot f ∙ ap (λ (x : Space). inRun (x .first) (x .pages) f) at-slot))
+    frames-are : inRun (x .first) (x .pages) ≡ hasFrame (layout t) (t .spaces) u
+    frames-are = fun-ext (λ f. sym (has-run (t .spaces) u f ∙ ap (λ (y : Space). inRun (y .first) (y .pages) f) at-slot))
 
-  pub make-done : (m' : List ℕ) → m' ≡ clearFrames (inRun first pages) m → Makes s guests owner name pages (reply (Done (s .next)) t) m m'
-  unfolding making replied scratchAfter
-  make-done m' cleared k to =
-      let now = sym (to ∙ state-is) in
-      goes _ s _ _ _ m m' (rw (← slot-is) (lt-ltb slot 32 slot-lt))
-      (goes _ s _ _ _ m m' (lt-ltb (s .next) 65536 next-lt)
-      (goes _ s _ _ _ m m' (rw (← first-is) (lt-ltb first (s .frames) first-lt))
-      (record {
-        reply = ap (reply (Done (s .next))) now;
-        scratch = cleared ∙ ap (λ fs. clearFrames fs m) frames-are ∙ ap₂ (λ (x : State) u. clearFrames (hasFrame (layout x) (x .spaces) u) m) now slot-is;
-      })))
+    made : (m' : List ℕ) → m' ≡ clearFrames (inRun (x .first) (x .pages)) m → Carried s (making s pages c) (reply (Done (s .next)) t) m m'
+    unfolding making replied scratchAfter
+    made m' cleared =
+        goes _ s _ _ _ m m' (rw (← at .slot) (lt-ltb u 32 (at .low)))
+        (goes _ s _ _ _ m m' (lt-ltb (s .next) 65536 (at .unspent))
+        (goes _ s _ _ _ m m' (lt-ltb (freeRun s pages) (s .frames) (at .run))
+        (record {
+          reply = ap (reply (Done (s .next))) (sym made-is);
+          scratch = cleared ∙ ap (λ fs. clearFrames fs m) frames-are ∙ ap₂ (λ (y : State) v. clearFrames (hasFrame (layout y) (y .spaces) v) m) (sym made-is) (at .slot);
+        })))
 
-pub first-small : (s : State) (first : ℕ) → sound s ≡ true → first < s .frames → first < 65536
-first-small s first ok l = omega (arith, sound-decides s .to ok .head .frames-high)
+-- What a call has decided, in the state that has the tables.
+module _ (s : State) (k : Call) (name pages : ℕ) (ch : State → Change) (r : Placed) (d : DecidedTo (s .frames) (s .next) (s .spaces) (s .guests) k name pages ch r) (m : List ℕ) where
+  known : (y : Placed) → r ≡ y → DecidedTo (s .frames) (s .next) (s .spaces) (s .guests) k name pages ch y
+  known y e = subst (DecidedTo (s .frames) (s .next) (s .spaces) (s .guests) k name pages ch) e d
+
+  shown : Shows s (s .frames) (s .next) (s .spaces)
+  shown = record { frames = refl; next = refl; spaces = refl }
+
+  pub refuses : (a : Answer) → r ≡ Refused a → Carried s (judge s k 0) (reply a s) m m
+  refuses a e = refused s _ a m (known (Refused a) e s shown refl)
+
+  module _ (u : ℕ) (x : Space) (e : r ≡ At u x) where
+    granted : Granted s k name pages (ch s) u x
+    granted = known (At u x) e s shown refl
+
+    pub slot-low : u < 32
+    slot-low = granted .placed .low
+
+    pub guest-low : 1 ≤ k .caller .guest
+    guest-low = granted .guest .low
+
+    pub guest-high : k .caller .guest ≤ 8
+    guest-high = granted .guest .high
+
+    -- the identification is not the last
+    pub next-small : s .next + 1 < 4294967296
+    next-small = omega (arith, granted .placed .unspent)
+
+    -- the run of the new space lies in scratch
+    pub run-inside : length m ≡ s .frames * 4096 → x .first * 4096 + x .pages * 4096 ≤ length m
+    run-inside = clear-fits s (k .caller .guest) name pages u x m (granted .placed)
+
+    -- hs are the guests after it
+    pub makes : (hs : List Guest) (m' : List ℕ) → applied s (ch s) ≡ spaceAdded (withGuests s hs) (freeSlot (s .spaces)) (newSpace s (k .caller .guest) name pages) → sound s ≡ true
+        → m' ≡ clearFrames (inRun (x .first) (x .pages)) m → Carried s (judge s k 0) (reply (Done (x .id)) (spaceAdded (withGuests s hs) u x)) m m'
+    unfolding newSpace
+    makes hs m' to ok cleared =
+        let n : x .id ≡ s .next = ap (λ (y : Space). y .id) (granted .placed .space) in
+        rw (granted .judged)
+        (subst (λ i. Carried s (making s pages (ch s)) (reply (Done i) (spaceAdded (withGuests s hs) u x)) m m') (sym n)
+        (made s (k .caller .guest) name pages u x m (granted .placed) hs (ch s) to ok m' cleared))
+
+pub frames-small : (s : State) → sound s ≡ true → s .frames ≤ 512
+frames-small s ok = sound-decides s .to ok .head .frames-high

@@ -1,40 +1,56 @@
--- `enrolling::enrol` meets its contract.
-use Rattle.enrolling.proofs.Enrolled.{enrol-caller, enrol-wrong, enrol-done, allowance-small, list-small, pages-low, pages-high, new-owner}
+-- `enrolling::enrol` meets its contract. Assumes nothing.
+use Rattle.making.proofs.Done.{refuses, slot-low, next-small, run-inside, frames-small}
+use Rattle.enrolling.proofs.Enrolled.{enrol-decides, number-low, place-low, allowance-fits, list-fits, enrol-done}
 use borrow.Author.Needs.{needs}
 use Rattle.enrolling.proofs.enrol.Statement.{statement}
 use Rattle.enrolling.proofs.enrol.Tie as tie
 
+decide-requires : tie.Need-decide-requires
+decide-requires c κs = search frames-small
+
+clear-requires : tie.Need-clear-requires
+clear-requires c κs = search (run-inside, enrol-decides)
+
+sub-at : tie.Need-sub-at
+sub-at c = search number-low
+
+new-guest-requires : tie.Need-new-guest-requires
+new-guest-requires c κs = (search allowance-fits, search list-fits)
+
+element-set-from-s : tie.Need-element-set-from-s
+element-set-from-s c = search place-low
+
+add-s : tie.Need-add-s
+add-s c = search (next-small, enrol-decides)
+
+element-set-from-space : tie.Need-element-set-from-space
+element-set-from-space c = search (slot-low, enrol-decides)
+
 returns : tie.Need-returns
-returns c = search enrol-caller
+returns c = search (refuses, enrol-decides)
 
 returns-2 : tie.Need-returns-2
-returns-2 c = search enrol-wrong
-
-cast-t13 : tie.Need-cast-t13
-cast-t13 c = search allowance-small
-
-cast-t14 : tie.Need-cast-t14
-cast-t14 c = search list-small
-
-make-requires : tie.Need-make-requires
-make-requires c κs = (search needs, search needs, search pages-low, search pages-high, search new-owner)
-
-returns-3 : tie.Need-returns-3
-returns-3 c = search enrol-done
+returns-2 c = search enrol-done
 
 pub enrol-spec : {M : Type 1} → statement M
 enrol-spec =
     tie.close
     (tie.spec
-    (λ c κs. search needs)
+    decide-requires
+    (λ c. search needs)
+    (λ c. search needs)
+    (λ c. search needs)
+    (λ c. search needs)
+    clear-requires
+    sub-at
+    (λ c. search needs)
+    new-guest-requires
+    (λ c. search needs)
+    element-set-from-s
+    add-s
+    (λ c. search needs)
+    (λ c. search needs)
+    element-set-from-space
     returns
-    (λ c κs. search needs)
-    (λ c κs. search needs)
-    returns-2
-    cast-t13
-    cast-t14
     (λ c. search needs)
-    (λ c. search needs)
-    make-requires
-    (λ c. search needs)
-    returns-3)
+    returns-2)
