@@ -6,3 +6,4 @@ pub mod Instance
 pub mod InstanceRecord
 pub mod InstanceHanded
 pub mod InstanceLimits
+pub mod LowestRuns
