@@ -21,6 +21,7 @@ use Rattle.model.specs.declared.Kind.the-variants.{OtherGuest, Name}
 use Rattle.model.specs.declared.Operation.{Operation}
 use Rattle.model.specs.declared.Operation.the-variants.{Permit, Isolate, Query, Add, Remove}
 use Rattle.model.specs.declared.Permit.{Permit as PermitRow}
+use Rattle.model.specs.declared.Reply.{Reply}
 use Rattle.model.specs.declared.Right.{Right}
 use Rattle.model.specs.declared.Right.the-variants.{Read}
 use Rattle.model.specs.declared.Space.{Space}
@@ -206,9 +207,13 @@ module _ (s : State) (c : Caller) (i : ℕ) (a : Asks) (v : View) (o : Owned) (o
   pub isolate-low : (u : ℕ) → o ≡ At u → u < 32
   isolate-low u e = told-as (At u) e .low
 
-  pub isolate-done : (u : ℕ) (r : State) → o ≡ At u → r ≡ applied s (IsolateSpace u) → reply (Done 0) r ≡ replied s (judge s (callOf c (Isolate i)) 0)
+  pub isolate-done : (u : ℕ) (r : Reply) → o ≡ At u → r ≡ reply (Done 0) (applied s (IsolateSpace u)) → r ≡ replied s (judge s (callOf c (Isolate i)) 0)
   unfolding replied
-  isolate-done u r e y = ap (reply (Done 0)) y ∙ ap (replied s) (sym (told-as (At u) e .decided .is s c ok (q ∙ ap (viewOf s) p)))
+  isolate-done u r e y = y ∙ ap (replied s) (sym (told-as (At u) e .decided .is s c ok (q ∙ ap (viewOf s) p)))
+
+-- what the code has made of the state, in its reply
+pub closed-reply : (s t : State) → s ≡ t → reply (Done 0) s ≡ reply (Done 0) t
+closed-reply s t = ap (reply (Done 0))
 
 -- QUERY
 module _ (v : View) (o n : ℕ) (x : Edited) (l : v .place < 8) (a : Bool) (ys : a ≡ both (leb 1 o) (leb o 8)) where

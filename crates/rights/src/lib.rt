@@ -7,8 +7,9 @@ ghost use lib.Dec.{leb, ltb};
 ghost use Rattle.lists.specs.Choice.{both};
 ghost use Rattle.model.specs.Calls.{judge};
 ghost use Rattle.model.specs.Changes.{applied};
+ghost use Rattle.model.specs.declared.Answer.the-variants.{Done};
 ghost use Rattle.model.specs.declared.Change.the-variants.{IsolateSpace};
-ghost use Rattle.model.specs.Replies.{replied, callOf};
+ghost use Rattle.model.specs.Replies.{reply, replied, callOf};
 ghost use Rattle.model.specs.SoundTest.{sound};
 ghost use Rattle.model.specs.declared.Operation.the-variants.{Permit as PermitCall, Isolate, Query, Add, Remove};
 ghost use Rattle.edits.specs.Edits.{Decided};
@@ -91,16 +92,21 @@ pub fn decide_isolate(v: View, id: u32) -> Owned
     lookup::owned_at(v.slot as usize, x, at as u32 + 1)
 }
 
-fn close(mut s: State, slot: u8) -> State
+// The reply of ISOLATE, done, of a state that is handed over. The reply is made here, of the one state: a state that came back
+// by itself would be copied into its reply once more.
+pub fn closed(mut s: State, slot: u8) -> Reply
     requires { ⌜ slot < 32 ⌝ }
-    ensures { λ r. ⌜ r ≡ applied s (IsolateSpace slot) ⌝ }
+    ensures { λ r. ⌜ r ≡ reply (Done 0) (applied s (IsolateSpace slot)) ⌝ }
 {
     let x = s.spaces[slot as usize];
     let p = s.permits;
     s.permits = closing::permits_without(p, slot);
     let e = s.entries;
     s.entries = closing::entries_without(e, x.owner, slot);
-    s
+    Reply {
+        answer: Answer::Done { value: 0 },
+        state: s,
+    }
 }
 
 pub fn isolate(s: State, caller: Caller, id: u32) -> Reply
@@ -114,10 +120,7 @@ pub fn isolate(s: State, caller: Caller, id: u32) -> Reply
             answer: refusal,
             state: s,
         },
-        Owned::At { slot } => Reply {
-            answer: Answer::Done { value: 0 },
-            state: close(s, slot),
-        },
+        Owned::At { slot } => closed(s, slot),
     }
 }
 

@@ -4,8 +4,8 @@ use borrow.Author.Needs.{needs}
 use Rattle.rights.proofs.isolate.Statement.{statement}
 use Rattle.rights.proofs.isolate.Tie as tie
 
-close-requires : tie.Need-close-requires
-close-requires c κs = search isolate-low
+closed-requires : tie.Need-closed-requires
+closed-requires c κs = search isolate-low
 
 returns : tie.Need-returns
 returns c = search isolate-refused
@@ -22,6 +22,6 @@ isolate-spec =
     (λ c κs. search needs)
     (λ c. search needs)
     (λ c. search needs)
-    close-requires
+    closed-requires
     returns
     returns-2)
