@@ -1,2 +1,2 @@
-pub mod Touches
-pub mod Served
+pub mod Ready
+pub mod Serving

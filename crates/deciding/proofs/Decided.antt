@@ -2,15 +2,14 @@
 use Prim.Native.Nat.{ℕ}
 use mathlib.Core.List.{List, [], _∷_}
 use mathlib.Core.Path.{_≡_, refl, subst, sym, ap}
-use denote.Enum.Declared.{tagOf}
-use types.Run.{OneOf}
+use types.Run.{OneOf, miss}
 use Rattle.model.specs.declared.Answer.{Answer}
 use Rattle.model.specs.declared.Operation.{Operation}
-use Rattle.model.specs.declared.Operation.the-variants.{Permit, Isolate, Query, Add, Remove, Load, Mode, Fetch, Store, Key, Block}
+use Rattle.model.specs.declared.Operation.the-variants.{Enrol, Create, Destroy, Permit, Isolate, Query, Add, Remove, Load, Mode, Fetch, Store, Reset, Key, Block}
 use Rattle.model.specs.declared.Right.{Right}
+use Rattle.model.specs.Classes.{noBytes, classOf}
 use Rattle.model.specs.Replies.{replied}
-use Rattle.model.proofs.Classes.{unmoving-at}
-use Rattle.model.proofs.Operation as operation-cases
+use Rattle.model.proofs.Classes.{place, unmoving-at}
 use Rattle.access.specs.Access.{Fetches, Stores}
 use Rattle.lookup.specs.declared.Owned.{Owned}
 use Rattle.lookup.specs.declared.Owned.the-variants.{At, Refused}
@@ -22,9 +21,9 @@ use Rattle.edits.proofs.Kept.{carried-reply}
 use Rattle.views.specs.declared.View.{View}
 use Rattle.deciding.specs.declared.Decision.{Decision}
 use Rattle.deciding.specs.declared.Decision.the-variants.{Made, Closes, NeedsTables}
-use Rattle.deciding.specs.Decisions.{DecidedTo}
-use Rattle.calls.proofs.Served.{still, fetched, stored}
-use Rattle.calls.proofs.Touches.{touch, Unmoving, LeavesScratch, LeavesBuffer}
+use Rattle.deciding.specs.Decisions.{whole, AsksWhole, DecidedTo}
+use Rattle.deciding.proofs.Served.{still, fetched, stored}
+use Rattle.deciding.proofs.Touches.{touch, Unmoving, LeavesScratch, LeavesBuffer}
 
 -- what ISOLATE is found to have decided
 isolated-as : (v : View) (id : ℕ) (w : Owned) → IsolatedTo v id w → (y : Owned) → w ≡ y → IsolatedTo v id y
@@ -101,9 +100,31 @@ isolate-closes v o m b id w u is t q =
       carried = record { served = λ s c ok seen. still s c (Isolate id) m b tt tt tt _ (ap (replied s) (sym (h .decided .is s c ok seen))) };
     })
 
--- the calls that ask for whole tables, by their places in the enum, move no bytes
-abbrev whole : List ℕ
-whole = 0 ∷ 1 ∷ 2 ∷ 12 ∷ []
+-- The calls that ask for whole tables: nothing has been done yet.
+pub not-yet : (v : View) (o : Operation) (m b : List ℕ) → AsksWhole o → DecidedTo v o m b NeedsTables m b
+not-yet v o m b h = record { asks = h; scratch = refl; buffer = refl }
 
-pub not-yet : (v : View) (o : Operation) (m b : List ℕ) → OneOf whole (tagOf operation-cases.the-type o) → DecidedTo v o m b NeedsTables m b
-not-yet v o m b h = record { unmoving = unmoving-at whole o h refl; scratch = refl; buffer = refl }
+-- they move no bytes
+pub whole-unmoving : (o : Operation) → AsksWhole o → classOf o .moves ≡ noBytes
+whole-unmoving o h = unmoving-at whole o h refl
+
+-- and the one that is none of the first three places is RESET
+abbrev pub later : List ℕ
+later = 3 ∷ 4 ∷ 5 ∷ 6 ∷ 7 ∷ 8 ∷ 9 ∷ 10 ∷ 11 ∷ 12 ∷ 13 ∷ 14 ∷ []
+
+pub whole-reset : (o : Operation) → AsksWhole o → OneOf later (place o) → o ≡ Reset
+whole-reset (Enrol x) h l = absurd (miss later 0 tt l)
+whole-reset (Create name pages) h l = absurd (miss later 1 tt l)
+whole-reset (Destroy id) h l = absurd (miss later 2 tt l)
+whole-reset (Permit id guest right) h l = absurd (miss whole 3 tt h)
+whole-reset (Isolate id) h l = absurd (miss whole 4 tt h)
+whole-reset (Query owner name) h l = absurd (miss whole 5 tt h)
+whole-reset (Add id right) h l = absurd (miss whole 6 tt h)
+whole-reset (Remove token) h l = absurd (miss whole 7 tt h)
+whole-reset (Load register value) h l = absurd (miss whole 8 tt h)
+whole-reset (Mode mode) h l = absurd (miss whole 9 tt h)
+whole-reset (Fetch register address) h l = absurd (miss whole 10 tt h)
+whole-reset (Store register address) h l = absurd (miss whole 11 tt h)
+whole-reset Reset h l = refl
+whole-reset (Key key) h l = absurd (miss whole 13 tt h)
+whole-reset (Block id address key mark) h l = absurd (miss whole 14 tt h)

@@ -1,8 +1,9 @@
 -- What becomes of a call on what it has seen of the tables. `m` is scratch, `b` the call's buffer.
 use Prim.Native.Nat.{ℕ, _<_}
 use mathlib.Core.Bool.{true}
-use mathlib.Core.List.{List}
+use mathlib.Core.List.{List, [], _∷_}
 use mathlib.Core.Path.{_≡_}
+use types.Run.{OneOf}
 use Rattle.model.specs.declared.Answer.{Answer}
 use Rattle.model.specs.declared.Answer.the-variants.{Done}
 use Rattle.model.specs.declared.Caller.{Caller}
@@ -11,9 +12,9 @@ use Rattle.model.specs.declared.Change.the-variants.{IsolateSpace}
 use Rattle.model.specs.declared.Operation.{Operation}
 use Rattle.model.specs.declared.State.{State}
 use Rattle.model.specs.Changes.{applied}
-use Rattle.model.specs.Classes.{noBytes, classOf}
 use Rattle.model.specs.Replies.{reply, callOf}
 use Rattle.model.specs.SoundTest.{sound}
+use Rattle.model.proofs.Classes.{place}
 use Rattle.edits.specs.declared.Edited.{Edited}
 use Rattle.edits.specs.Edits.{changeOf, Fits}
 use Rattle.views.specs.declared.View.{View}
@@ -21,7 +22,7 @@ use Rattle.asks.specs.Asks.{asksBy}
 use Rattle.views.specs.Views.{viewOf}
 use Rattle.deciding.specs.declared.Decision.{Decision}
 use Rattle.deciding.specs.declared.Decision.the-variants.{Made, Closes, NeedsTables}
-use Rattle.calls.specs.Served.{Served}
+use Rattle.deciding.specs.Served.{Served}
 
 -- For every caller and every sound state which shows what was seen, the call is served with the answer a once the change k is
 -- made.
@@ -38,9 +39,16 @@ pub record WithClosing (v : View) (o : Operation) (m b : List ℕ) (slot : ℕ) 
   pub low : slot < 32
   pub carried : CarriedOut v o m b (Done 0) (IsolateSpace slot) m' b'
 
--- or nothing has been done yet, for a call that moves no bytes
+-- the calls that ask for whole tables: ENROL, CREATE, DESTROY and RESET, by their places in the enum
+abbrev pub whole : List ℕ
+whole = 0 ∷ 1 ∷ 2 ∷ 12 ∷ []
+
+abbrev pub AsksWhole : Operation → Type 0
+AsksWhole o = OneOf whole (place o)
+
+-- or nothing has been done yet, for one of these
 pub record NotYet (o : Operation) (m b m' b' : List ℕ) : Type 0 where
-  pub unmoving : classOf o .moves ≡ noBytes
+  pub asks : AsksWhole o
   pub scratch : m' ≡ m
   pub buffer : b' ≡ b
 

@@ -1,11 +1,9 @@
--- Check 1, and what follows it. Assumes nothing.
-use Prim.Native.Nat.{ℕ, _*_}
+-- From check 1 and what the inner layer gives to what each call promises. Assumes nothing.
+use Prim.Native.Nat.{ℕ}
 use mathlib.Core.Bool.{Bool, true, false}
 use mathlib.Core.List.{List, []}
-use mathlib.Core.Path.{_≡_, ap, sym, _∙_}
+use mathlib.Core.Path.{_≡_}
 use lib.ListN.{length}
-use borrow.Author.Tests.{eqb-true}
-use Rattle.lists.proofs.Choice.{both-left, both-right}
 use Rattle.model.specs.declared.Answer.{Answer}
 use Rattle.model.specs.declared.Answer.the-variants.{Unsound}
 use Rattle.model.specs.declared.Call.{Call}
@@ -17,37 +15,16 @@ use Rattle.model.specs.Calls.{ready, judge}
 use Rattle.model.specs.Leaves.{scratchJudged, bufferJudged}
 use Rattle.model.specs.Promise.{Promise, stepOf}
 use Rattle.model.specs.Replies.{reply, replied, callOf, Carried}
-use Rattle.model.specs.SoundTest.{sound}
-use Rattle.model.proofs.Promise.{promise-unready, promise-ready}
-use Rattle.calls.specs.Served.{Served}
-use Rattle.calls.proofs.Served.{still, cleared, asked, fetched, stored}
-use Rattle.calls.proofs.Touches.{touch, LeavesTables, LeavesScratch, LeavesBuffer, Unmoving}
-
--- what check 1 has found
-pub ready-sound : (s : State) (m : ℕ) (x : Bool) → x ≡ ready s m → x ≡ true → sound s ≡ true
-unfolding ready
-ready-sound s m x e t = both-left (sound s) _ (sym e ∙ t)
-
-pub ready-room : (s : State) (m : ℕ) (x : Bool) → x ≡ ready s m → x ≡ true → m ≡ s .frames * 4096
-unfolding ready
-ready-room s m x e t = eqb-true _ _ (both-right (sound s) _ (sym e ∙ t))
+use Rattle.calls.proofs.Ready.{refuses, serves}
+use Rattle.deciding.proofs.Served.{still, cleared, asked, fetched, stored}
+use Rattle.deciding.proofs.Touches.{touch, LeavesTables, LeavesScratch, LeavesBuffer, Unmoving}
 
 -- check 1 refuses
-pub refuses : (s : State) (k : Call) (m b : List ℕ) (x : Bool) → x ≡ ready s (length m) → x ≡ false → Promise (stepOf s m k b) Unsound s m b
-refuses s k m b x e f = promise-unready s k m b (sym e ∙ f)
-
 pub refuses-with : (s : State) (k : Call) (m b : List ℕ) (x : Bool) (r : Reply) → x ≡ ready s (length m) → x ≡ false → r ≡ reply Unsound s
     → Promise (stepOf s m k b) (r .answer) (r .state) m b
 refuses-with s k m b x r e f q = rw q (refuses s k m b x e f)
 
--- check 1 passes
-pub serves : (s : State) (k : Call) (m b m' b' : List ℕ) (r : Reply) (x : Bool) → x ≡ ready s (length m) → x ≡ true → Served s k r m b m' b'
-    → Promise (stepOf s m k b) (r .answer) (r .state) m' b'
-unfolding replied
-serves s k m b m' b' r x e t d =
-    promise-ready s k m b (r .answer) (r .state) m' b' (sym e ∙ t) (ap (λ y. y .answer) (d .reply)) (ap (λ y. y .state) (d .reply)) (d .scratch) (d .buffer)
-
--- and the single calls, by what each touches
+-- check 1 passes: the single calls, by what each touches
 module _ (s : State) (c : Caller) (k : Operation) (m : List ℕ) (x : Bool) where
   -- tables alone
   pub changes-tables : Unmoving (touch k) → LeavesScratch (touch k) → LeavesBuffer (touch k) → (r : Reply) → x ≡ ready s (length m) → x ≡ true

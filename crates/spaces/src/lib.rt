@@ -9,7 +9,6 @@ ghost use Rattle.model.specs.Replies.{reply, callOf};
 ghost use Rattle.model.specs.declared.Answer.the-variants.{Unsound};
 ghost use Rattle.model.specs.declared.Operation.the-variants.{Enrol, Create, Destroy, Permit, Isolate, Query, Add, Remove, Load, Mode, Fetch, Store, Reset, Key, Block};
 use model::Answer;
-use model::Call;
 use model::Caller;
 use model::Reply;
 use model::Right;
@@ -205,11 +204,4 @@ pub fn reset(s: State, scratch: &mut [u8], caller: Caller) -> Reply
 }
 
 // Any of the fifteen as a value.
-pub fn serve(s: State, scratch: &mut [u8], call: Call, buffer: &mut [u8]) -> Reply
-    ensures { λ r. ⌜ Promise (stepOf s (now (scratch .entry)) call (now (buffer .entry))) (r .answer) (r .state) (now (scratch .exit)) (now (buffer .exit)) ⌝ }
-{
-    if !ready::is_ready(s, scratch.len()) {
-        return unsound(s);
-    }
-    calls::serve(s, scratch, call, buffer)
-}
+pub use calls::serve;

@@ -1,7 +1,8 @@
 -- `spaces::fetch` meets its contract. Assumes nothing.
 use borrow.Author.Needs.{needs}
 use Rattle.lists.proofs.Rules.{tests}
-use Rattle.spaces.proofs.Ready.{ready-sound, ready-room, refuses, fetches}
+use Rattle.calls.proofs.Ready.{ready-sound, ready-room, refuses}
+use Rattle.spaces.proofs.Ready.{fetches}
 use Rattle.spaces.proofs.fetch.Statement.{statement}
 use Rattle.spaces.proofs.fetch.Tie as tie
 

@@ -1,6 +1,7 @@
 -- `spaces::key` meets its contract. Assumes nothing.
 use Rattle.lists.proofs.Rules.{tests}
-use Rattle.spaces.proofs.Ready.{ready-sound, refuses-with, changes-tables}
+use Rattle.calls.proofs.Ready.{ready-sound}
+use Rattle.spaces.proofs.Ready.{refuses-with, changes-tables}
 use borrow.Author.Needs.{needs}
 use Rattle.spaces.proofs.key.Statement.{statement}
 use Rattle.spaces.proofs.key.Tie as tie

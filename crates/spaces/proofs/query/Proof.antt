@@ -1,7 +1,8 @@
 -- `spaces::query` meets its contract. Assumes nothing.
 use borrow.Author.Needs.{needs}
 use Rattle.lists.proofs.Rules.{tests}
-use Rattle.spaces.proofs.Ready.{ready-sound, refuses, asks}
+use Rattle.calls.proofs.Ready.{ready-sound, refuses}
+use Rattle.spaces.proofs.Ready.{asks}
 use Rattle.spaces.proofs.query.Statement.{statement}
 use Rattle.spaces.proofs.query.Tie as tie
 

@@ -1,7 +1,8 @@
 -- `spaces::store` meets its contract. Assumes nothing.
 use borrow.Author.Needs.{needs}
 use Rattle.lists.proofs.Rules.{tests}
-use Rattle.spaces.proofs.Ready.{ready-sound, ready-room, refuses, stores}
+use Rattle.calls.proofs.Ready.{ready-sound, ready-room, refuses}
+use Rattle.spaces.proofs.Ready.{stores}
 use Rattle.spaces.proofs.store.Statement.{statement}
 use Rattle.spaces.proofs.store.Tie as tie
 
