@@ -22,7 +22,7 @@ use Rattle.model.specs.Step.{outcome, step, scratchAfter, bufferAfter}
 use Rattle.model.proofs.Refusals.{unready}
 use Rattle.model.proofs.Rules.{check-yes}
 use Rattle.model.proofs.Sound.{ready-to, ready-kept, length-scratchAfter, length-bufferAfter}
-use Rattle.calls.specs.Served.{Served}
+use Rattle.deciding.specs.Served.{Served}
 use Rattle.ready.specs.Usable.{usable}
 use Rattle.turns.specs.declared.Host.{Host}
 use Rattle.turns.specs.declared.Outcome.{Outcome}

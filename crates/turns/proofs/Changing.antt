@@ -1,4 +1,4 @@
--- A request on whole tables: what waits is a call that moves no bytes, FRAMES, or what is not read. Assumes nothing.
+-- A request on whole tables: what waits is a call that asks for these, FRAMES, or what is not read. Assumes nothing.
 use Prim.Native.Nat.{ℕ, _+_, _-_, _*_, _≤_}
 use mathlib.Core.Bool.{Bool, true, false, not}
 use mathlib.Core.List.{List, [], _++_}
@@ -12,7 +12,6 @@ use lib.Seq.{length-take-le}
 use Rattle.lists.specs.Bytes.{over}
 use Rattle.lists.specs.Choice.{both}
 use Rattle.lists.proofs.Choice.{yes!, no! }
-use Rattle.lists.proofs.Parts.{no-elements}
 use Rattle.model.specs.declared.Answer.{Answer}
 use Rattle.model.specs.declared.Answer.the-variants.{Done, Limit, LineNotRead}
 use Rattle.model.specs.declared.Call.{Call}
@@ -25,19 +24,21 @@ use Rattle.model.specs.Classes.{Moves}
 use Rattle.model.specs.Fresh.{emptyTables}
 use Rattle.model.specs.SoundTest.{sound}
 use Rattle.model.specs.Session.{Turn, turn, filled, bufferFor, framesTurn, requestTurn}
-use Rattle.calls.specs.Served.{Served}
+use Rattle.deciding.specs.Decisions.{AsksWhole}
+use Rattle.deciding.specs.Served.{Served}
+use Rattle.deciding.proofs.Decided.{whole-unmoving}
 use Rattle.ready.specs.Usable.{usable}
 use Rattle.turns.specs.declared.Changed.{Changed}
 use Rattle.turns.specs.declared.Host.{Host}
 use Rattle.turns.specs.Taken.{sessionOf, Taken, Waiting, CallWaits, hostAfter, ChangedTo}
-use Rattle.turns.proofs.Carried.{served-scratch, served-buffer, after, served-taken}
+use Rattle.turns.proofs.Carried.{served-scratch, after, served-taken}
 use Rattle.turns.proofs.Usable.{usable-sound, usable-room, usable-part}
 
 pub waits-here : (h : Host) (room : ℕ) (q : Request) (k : Call) (size : ℕ) → q ≡ Asked k size → Waiting (h .begun) (h .ready) q → h .ready ≡ usable (h .state) room
     → CallWaits h room (Asked k size) k
 waits-here h room q k size e w u =
     let here : Waiting (h .begun) (h .ready) (Asked k size) = subst (Waiting (h .begun) (h .ready)) e w in
-    record { size = size; asked = refl; begun = here .0; ready = here .1; unmoving = here .2; usable = u }
+    record { size = size; asked = refl; begun = here .0; ready = here .1; asks = here .2; usable = u }
 
 -- the request is what the code has found it to be
 pub known-changed : (h : Host) (m : List ℕ) (q k : Request) (r : Changed) (m' : List ℕ) → q ≡ k → ChangedTo h m k r m' → ChangedTo h m q r m'
@@ -57,17 +58,19 @@ module _ (h : Host) (m : List ℕ) (q : Request) (k : Call) (w : CallWaits h (le
   pub waits-part : length (take (room - 0) m) ≡ room
   waits-part = usable-part (h .state) m (h .ready) (w .usable) (w .ready)
 
+  pub waits-asks : AsksWhole (k .operation)
+  waits-asks = w .asks
+
   empty : [] ≡ bufferFor (k .operation) (w .size) []
   unfolding bufferFor
-  empty = sym (ap (λ (v : Moves). filled v (w .size) []) (w .unmoving))
+  empty = sym (ap (λ (v : Moves). filled v (w .size) []) (whole-unmoving (k .operation) (w .asks)))
 
-  pub carried : (r : Reply) (m' b' : List ℕ) → Served (h .state) k r (take (room - 0) m) [] m' b'
+  pub carried : (r : Reply) (m' : List ℕ) → Served (h .state) k r (take (room - 0) m) [] m' []
       → ChangedTo h m q (record { outcome = record { request = q; answer = r .answer; moved = 0 }; begun = true; ready = true; state = r .state }) (m' ++ drop (room - 0) m)
   unfolding over
-  carried r m' b' v =
-      let v' : Served (h .state) k r (take room m) (bufferFor (k .operation) (w .size) []) m' b' = rw (← empty) (rw (sub-zero room) at v) in
-      let none : b' ≡ [] = no-elements b' (served-buffer (h .state) k _ [] m' b' r v) in
-      let long : length m' ≡ room = served-scratch (h .state) k _ _ m' b' r v' ∙ length-take-le room m waits-room in
+  carried r m' v =
+      let v' : Served (h .state) k r (take room m) (bufferFor (k .operation) (w .size) []) m' [] = subst (λ (b : List ℕ). Served (h .state) k r (take room m) b m' []) empty (rw (sub-zero room) at v) in
+      let long : length m' ≡ room = served-scratch (h .state) k _ _ m' [] r v' ∙ length-take-le room m waits-room in
       let j : 0 + length m' ≡ room - 0 = omega (arith, long) in
       let back : over m 0 m' ≡ m' ++ drop (room - 0) m = ap (λ n. m' ++ drop n m) j in
       let host : after h r ≡ record { begun = true; ready = true; state = r .state } = rw (w .begun, w .ready) refl in
@@ -76,8 +79,7 @@ module _ (h : Host) (m : List ℕ) (q : Request) (k : Call) (w : CallWaits h (le
         taken = λ b.
             subst (λ (x : Host). Taken (requestTurn (sessionOf h m) q []) (record { request = q; answer = r .answer; moved = 0 }) b x (m' ++ drop (room - 0) m)) host
             (rw (w .asked, ← back)
-            (served-taken h m [] k (w .size) (w .begun) (w .usable) r m' b' (w .ready) v' _ b
-            (ap (λ (l : List ℕ). record { request = Asked k (w .size); answer = r .answer; moved = l }) (sym none))));
+            (served-taken h m [] k (w .size) (w .begun) (w .usable) r m' [] (w .ready) v' _ b refl));
       }
 
 -- Nothing changes but what the turn says of the host.

@@ -26,10 +26,11 @@ use Rattle.model.specs.Replies.{reply, callOf}
 use Rattle.model.specs.Session.{bufferFor, requestTurn}
 use Rattle.model.specs.SoundTest.{sound}
 use Rattle.access.proofs.Reach.{seen-run}
-use Rattle.calls.specs.Served.{Served}
 use Rattle.deciding.specs.declared.Decision.{Decision}
 use Rattle.deciding.specs.declared.Decision.the-variants.{Made, Closes, NeedsTables}
 use Rattle.deciding.specs.Decisions.{CarriedOut, DecidedTo}
+use Rattle.deciding.specs.Served.{Served}
+use Rattle.deciding.proofs.Decided.{whole-unmoving}
 use Rattle.edits.specs.declared.Edit.the-variants.{Nothing}
 use Rattle.edits.specs.declared.Edited.{Edited}
 use Rattle.edits.specs.Edits.{changeOf, Fits}
@@ -153,8 +154,8 @@ module _ (x : Here) (v : View) (q : Request) (k : Call) (size n : ℕ) (m b m' b
   call-waits is =
       let w = decided NeedsTables is in
       record {
-        waits = subst (Waiting (x .begun) (x .ready)) (sym g) (not-false (x .begun) f, not-false (x .ready) t, w .unmoving);
-        bare = unstoring q b (rw g (ap storesBytes (w .unmoving)));
+        waits = subst (Waiting (x .begun) (x .ready)) (sym g) (not-false (x .begun) f, not-false (x .ready) t, w .asks);
+        bare = unstoring q b (rw g (ap storesBytes (whole-unmoving (k .operation) (w .asks))));
         scratch = ap (λ l. l ++ drop (x .frames * 4096 - 0) m) (w .scratch) ∙ take-append-drop (x .frames * 4096 - 0) m;
         buffer = ap (λ l. l ++ drop (n - 0) b) (w .buffer) ∙ take-append-drop (n - 0) b;
       }

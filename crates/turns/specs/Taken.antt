@@ -9,9 +9,10 @@ use Rattle.lists.specs.Choice.{choose}
 use Rattle.model.specs.declared.Call.{Call}
 use Rattle.model.specs.declared.Request.{Request}
 use Rattle.model.specs.declared.Request.the-variants as request
-use Rattle.model.specs.Classes.{Moves, noBytes, fromSpace, toSpace, classOf}
+use Rattle.model.specs.Classes.{Moves, noBytes, fromSpace, toSpace}
 use Rattle.model.specs.Lines.{stores, lengthOf}
 use Rattle.model.specs.Session.{Session, LineOutcome, Turn, requestTurn}
+use Rattle.deciding.specs.Decisions.{AsksWhole}
 use Rattle.ready.specs.Usable.{usable}
 use Rattle.turns.specs.declared.Changed.{Changed}
 use Rattle.turns.specs.declared.Host.{Host}
@@ -48,10 +49,10 @@ pub record Taken (t : Turn) (o : Outcome) (b : List ℕ) (h : Host) (m : List �
   pub ready : h .ready ≡ usable (h .state) (length m)
 
 -- Requests on whole tables.
--- what one that is not answered yet finds: a call finds a host that check 1 holds of, and moves no bytes
+-- what one that is not answered yet finds: a call finds a host that check 1 holds of, and asks for whole tables
 abbrev pub Waiting : (begun ready : Bool) → Request → Type 0
 Waiting b r (request.Frames count) = Unit {0}
-Waiting b r (request.Call k size) = (b ≡ true) × (r ≡ true) × (classOf (k .operation) .moves ≡ noBytes)
+Waiting b r (request.Call k size) = (b ≡ true) × (r ≡ true) × AsksWhole (k .operation)
 Waiting b r request.NotRead = Unit {0}
 
 -- the call k waits
@@ -60,7 +61,7 @@ pub record CallWaits (h : Host) (room : ℕ) (q : Request) (k : Call) : Type 0 w
   pub asked : q ≡ request.Call k size
   pub begun : h .begun ≡ true
   pub ready : h .ready ≡ true
-  pub unmoving : classOf (k .operation) .moves ≡ noBytes
+  pub asks : AsksWhole (k .operation)
   pub usable : h .ready ≡ usable (h .state) room
 
 abbrev pub hostAfter : Changed → Host

@@ -1,12 +1,17 @@
 // One request of a session, with the buffer that the reader has filled for it. What becomes of it is a value, its outcome, of
 // which the reply is made. A request that stores one element at most has what it sees of the tables; any other has the tables.
-ghost use Prim.Native.Nat.{_+_, _≤_};
+ghost use Prim.Native.Nat.{_+_, _*_, _≤_};
+ghost use mathlib.Core.Bool.{true};
+ghost use mathlib.Core.List.{[]};
 ghost use mathlib.Core.Path.{_≡_};
 ghost use lib.ListN.{length};
 ghost use Rattle.model.specs.Classes.{classOf};
 ghost use Rattle.model.specs.Session.{lineText};
+ghost use Rattle.model.specs.SoundTest.{sound};
 ghost use Rattle.model.specs.declared.Request.the-variants.{Frames};
 ghost use Rattle.ready.specs.Usable.{usable};
+ghost use Rattle.deciding.specs.Decisions.{AsksWhole};
+ghost use Rattle.deciding.specs.Served.{Served};
 ghost use Rattle.digits.specs.Wrote.{Wrote};
 ghost use Rattle.edits.specs.declared.Edit.the-variants.{Nothing};
 ghost use Rattle.turns.specs.declared.Answered.the-variants.{To};
@@ -18,6 +23,7 @@ use model::Answer;
 use model::Call;
 use model::Kind;
 use model::Operation;
+use model::Reply;
 use model::Request;
 use model::State;
 use views::View;
@@ -140,14 +146,30 @@ pub fn answer(
     }
 }
 
-// A call that moves no bytes, where check 1 holds.
+// The calls that ask for whole tables, of a sound state and its scratch. They leave the buffer alone.
+fn serve_whole(s: State, scratch: &mut [u8], call: Call) -> Reply
+    requires { ⌜ (sound s ≡ true) × (length (now scratch) ≡ s .frames * 4096) × AsksWhole (call .operation) ⌝ }
+    ensures { λ r. ⌜ Served s call r (now (scratch .entry)) [] (now (scratch .exit)) [] ⌝ }
+{
+    let caller = call.caller;
+    let operation = call.operation;
+    match operation {
+        Operation::Enrol { settings } => enrolling::enrol(s, scratch, caller, settings),
+        Operation::Create { name, pages } => creating::create(s, scratch, caller, name, pages),
+        Operation::Destroy { id } => withdrawing::destroy(s, scratch, caller, id),
+        // what is left is RESET
+        _ => withdrawing::reset(s, scratch, caller),
+    }
+}
+
+// A call that asks for whole tables, where check 1 holds.
 fn carry(h: Host, scratch: &mut [u8], request: Request, call: Call) -> Changed
     requires { ⌜ CallWaits h (length (now scratch)) request call ⌝ }
     ensures { λ r. ⌜ ChangedTo h (now (scratch .entry)) request r (now (scratch .exit)) ⌝ }
 {
     let s = h.state;
     let room = (s.frames as usize) * 4096;
-    let r = calls::serve(s, &mut scratch[0..room], call, &mut []);
+    let r = serve_whole(s, &mut scratch[0..room], call);
     let answer = r.answer;
     let after = r.state;
     Changed {

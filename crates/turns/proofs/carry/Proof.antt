@@ -1,14 +1,14 @@
 -- `turns::carry` meets its contract. Assumes nothing.
-use Rattle.turns.proofs.Changing.{waits-room, waits-sound, waits-part, carried}
+use Rattle.turns.proofs.Changing.{waits-room, waits-sound, waits-part, waits-asks, carried}
 use borrow.Author.Needs.{needs}
 use Rattle.turns.proofs.carry.Statement.{statement}
 use Rattle.turns.proofs.carry.Tie as tie
 
-part-serve-end : tie.Need-part-serve-end
-part-serve-end c = search waits-room
+part-serve-whole-end : tie.Need-part-serve-whole-end
+part-serve-whole-end c = search waits-room
 
-serve-requires : tie.Need-serve-requires
-serve-requires c κs = (search waits-sound, search waits-part)
+serve-whole-requires : tie.Need-serve-whole-requires
+serve-whole-requires c κs = (search waits-sound, search waits-part, search waits-asks)
 
 returns : tie.Need-returns
 returns c = search carried
@@ -21,8 +21,7 @@ carry-spec =
     (λ c. search needs)
     (λ c. search needs)
     (λ c. search needs)
-    part-serve-end
-    (λ c. search needs)
-    serve-requires
+    part-serve-whole-end
+    serve-whole-requires
     (λ c. search needs)
     returns)
