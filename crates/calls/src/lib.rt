@@ -1,5 +1,5 @@
 // Any of the fifteen calls as a value. Nothing is asked of the caller: check 1 comes first. A call is decided on what it sees
-// of the tables, or carried out on whole tables. Each way out hands the state to one function, which makes the reply of it.
+// of the tables, or carried out on whole tables. Past check 1 each way out hands the state to one function, which makes the reply of it.
 ghost use Rattle.model.specs.Promise.{Promise, stepOf};
 use deciding::Decision;
 use model::Answer;

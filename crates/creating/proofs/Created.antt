@@ -29,11 +29,11 @@ use Rattle.model.proofs.Rules.{check-yes, check-no, place-yes, place-no, place-
 use Rattle.model.proofs.Searches.{enrolled-guest}
 use Rattle.making.specs.declared.Placed.{Placed}
 use Rattle.making.specs.declared.Placed.the-variants.{Refused, At}
-use Rattle.making.specs.Placing.{Shows, PlacedTo, DecidedTo}
+use Rattle.making.specs.Placing.{HasTables, PlacedTo, CallPlacedTo}
 
 module _ (F next : ℕ) (ss : List Space) (gs : List Guest) (c : Caller) (name pages at : ℕ) (e : at ≡ callerPlace gs (c .guest)) where
   abbrev Stops : Answer → Type 0
-  Stops a = (s : State) → Shows s F next ss → s .guests ≡ gs → judge s (callOf c (Create name pages)) 0 ≡ refuse a
+  Stops a = (s : State) → HasTables s F next ss → s .guests ≡ gs → judge s (callOf c (Create name pages)) 0 ≡ refuse a
 
   -- check 2
   pub create-caller : 8 ≤ at → Stops BadCaller
@@ -88,7 +88,7 @@ module _ (F next : ℕ) (ss : List Space) (gs : List Guest) (c : Caller) (name p
                   ∙ check-yes _ _ (rw (h .spaces, ← ue) (le-leb 32 u ul))
                   ∙ check-no _ _ (ap not (eq-eqb _ _ (ap (λ x. dataSpaces x (c .guest)) (h .spaces) ∙ sym ne ∙ nn ∙ allowance-is s q)))
 
-              passed : (n ≡ getD gs at noGuest .allowance → ⊥) → (s : State) → Shows s F next ss → s .guests ≡ gs
+              passed : (n ≡ getD gs at noGuest .allowance → ⊥) → (s : State) → HasTables s F next ss → s .guests ≡ gs
                   → judge s (callOf c (Create name pages)) 0 ≡ making s pages (creating s (c .guest) name pages)
               unfolding create
               passed nn s h q =
@@ -96,6 +96,6 @@ module _ (F next : ℕ) (ss : List Space) (gs : List Guest) (c : Caller) (name p
                   ∙ check-yes _ _ (rw (h .spaces, ← ue) (le-leb 32 u ul))
                   ∙ check-yes _ _ (ap not (ne-eqb _ _ (λ z. nn (ne ∙ ap (λ x. dataSpaces x (c .guest)) (sym (h .spaces)) ∙ z ∙ sym (allowance-is s q)))))
 
-              pub create-placed : (n ≡ getD gs at noGuest .allowance → ⊥) → (r : Placed) → PlacedTo F next ss (c .guest) name pages r → DecidedTo F next ss gs (callOf c (Create name pages)) name pages (λ s. creating s (c .guest) name pages) r
+              pub create-placed : (n ≡ getD gs at noGuest .allowance → ⊥) → (r : Placed) → PlacedTo F next ss (c .guest) name pages r → CallPlacedTo F next ss gs (callOf c (Create name pages)) name pages (λ s. creating s (c .guest) name pages) r
               create-placed nn (Refused a) p = λ s h q. passed nn s h q ∙ p s h (creating s (c .guest) name pages)
               create-placed nn (At v x) p = λ s h q. record { guest = enrolled-guest (s .guests) (c .guest) (rw q (place-yes at gs (c .guest) e l)); judged = passed nn s h q; placed = p s h }

@@ -7,7 +7,7 @@ ghost use Rattle.model.specs.Calls.{judge, creating as creatingIn};
 ghost use Rattle.model.specs.Replies.{callOf, Carried};
 ghost use Rattle.model.specs.SoundTest.{sound};
 ghost use Rattle.model.specs.declared.Operation.the-variants.{Create};
-ghost use Rattle.making.specs.Placing.{DecidedTo};
+ghost use Rattle.making.specs.Placing.{CallPlacedTo};
 use making::Placed;
 use model::Answer;
 use model::Caller;
@@ -28,7 +28,7 @@ fn decide(
     pages: u32,
 ) -> Placed
     requires { ⌜ frames ≤ 512 ⌝ }
-    ensures { λ r. ⌜ DecidedTo frames next spaces guests (callOf caller (Create name pages)) name pages (λ s. creatingIn s (caller .guest) name pages) r ⌝ }
+    ensures { λ r. ⌜ CallPlacedTo frames next spaces guests (callOf caller (Create name pages)) name pages (λ s. creatingIn s (caller .guest) name pages) r ⌝ }
 {
     let at = lookup::caller_place(guests, caller.guest);
     if 8 <= at {

@@ -7,7 +7,7 @@ use mathlib.Core.Path.{_≡_, refl, subst, sym, _∙_}
 use native.Mathlib.Omega.{arith}
 use lib.Dec.{leb}
 use lib.ListN.{set}
-use borrow.Author.Tests.{leb-true}
+use borrow.Author.Tests.{leb-true, not-true, not-false}
 use Rattle.lists.specs.Choice.{choose, both}
 use Rattle.lists.proofs.Choice.{not-so, yes!, no!, both-left, both-right}
 use Rattle.model.specs.declared.Answer.{Answer}
@@ -31,41 +31,21 @@ use Rattle.model.specs.SoundTest.{sound}
 use Rattle.model.specs.Step.{clearFrames}
 use Rattle.model.specs.Tables.{guestAt, guestPlace, withGuests}
 use Rattle.model.proofs.Rules.{check-yes, check-no}
-use Rattle.enrolling.specs.Enrolling.{newPlace, wrongOf, kindAt, Decides, EnrolsTo}
+use Rattle.enrolling.specs.Enrolling.{mayEnrolIn, wrongOf, kindAt, Decides, EnrolsTo}
 use Rattle.making.specs.declared.Placed.{Placed}
 use Rattle.making.specs.declared.Placed.the-variants.{Refused, At}
-use Rattle.making.specs.Placing.{Shows, PlacedTo}
+use Rattle.making.specs.Placing.{HasTables, PlacedTo}
 use Rattle.making.proofs.Done as making
 
 -- check 2
-module _ (gs : List Guest) (g at : ℕ) (is : at ≡ newPlace gs g) where
-  abbrev may : Bool
-  may = both (both (leb 1 g) (leb g 8)) (not (guestAt gs g .enrolled))
+module _ (gs : List Guest) (g : ℕ) (may : mayEnrolIn gs g ≡ true) where
+  guest-high : g ≤ 8
+  unfolding mayEnrolIn
+  guest-high = leb-true g 8 (both-right (leb 1 g) (leb g 8) (both-left (both (leb 1 g) (leb g 8)) _ may))
 
-  guest-high : may ≡ true → g ≤ 8
-  guest-high e = leb-true g 8 (both-right (leb 1 g) (leb g 8) (both-left (both (leb 1 g) (leb g 8)) _ e))
-
-  guest-low : may ≡ true → 1 ≤ g
-  guest-low e = leb-true 1 g (both-left (leb 1 g) (leb g 8) (both-left (both (leb 1 g) (leb g 8)) _ e))
-
-  may-not : 8 ≤ at → may ≡ false
-  unfolding newPlace
-  may-not l = not-so may (λ e. let q : at ≡ guestPlace g = is ∙ yes! _ _ e in omega (arith, guest-high e, guest-low e))
-
-  pub new-may : at < 8 → may ≡ true
-  unfolding newPlace
-  new-may l = go may refl
-    where
-      go : (b : Bool) → may ≡ b → may ≡ true
-      go true e = e
-      go false e = let q : at ≡ 8 = is ∙ no! _ _ e in absurd (omega arith)
-
-  new-is : at < 8 → at ≡ guestPlace g
-  unfolding newPlace
-  new-is l = is ∙ yes! _ _ (new-may l)
-
-  pub new-owner : at < 8 → g ≤ 8
-  new-owner l = guest-high (new-may l)
+  guest-low : 1 ≤ g
+  unfolding mayEnrolIn
+  guest-low = leb-true 1 g (both-left (leb 1 g) (leb g 8) (both-left (both (leb 1 g) (leb g 8)) _ may))
 
 -- the checks of the arguments, over the five tests
 abbrev wrong : (a b c d e : Bool) → ℕ
@@ -109,35 +89,42 @@ module _ (x : Settings) (w : ℕ) (is : w ≡ wrongOf x) (none : w ≡ 0) where
   list-small = omega (arith, leb-true (x .list) 30 (both-right (leb 1 (x .list)) _ (right .3)))
 
 -- the call, on the tables that it looks at
-module _ (F next : ℕ) (ss : List Space) (gs : List Guest) (c : Caller) (x : Settings) (at : ℕ) (e : at ≡ newPlace gs (c .guest)) where
+module _ (F next : ℕ) (ss : List Space) (gs : List Guest) (c : Caller) (x : Settings) (may : Bool) (e : may ≡ mayEnrolIn gs (c .guest)) where
   abbrev Stops : Answer → Type 0
-  Stops a = (s : State) → Shows s F next ss → s .guests ≡ gs → judge s (callOf c (Enrol x)) 0 ≡ refuse a
+  Stops a = (s : State) → HasTables s F next ss → s .guests ≡ gs → judge s (callOf c (Enrol x)) 0 ≡ refuse a
 
-  pub enrol-caller : 8 ≤ at → Stops BadCaller
-  unfolding judge goodCaller enrols choose mayEnrol
-  enrol-caller l s h q = check-no _ _ (rw q (may-not gs (c .guest) at e l))
+  pub enrol-caller : not may ≡ true → Stops BadCaller
+  unfolding judge goodCaller enrols choose mayEnrol mayEnrolIn
+  enrol-caller f s h q = check-no _ _ (rw q (sym e ∙ not-true may f))
 
-  module _ (l : at < 8) (w : ℕ) (we : w ≡ wrongOf x) where
-    may-enrol : (s : State) → s .guests ≡ gs → mayEnrol s (c .guest) ≡ true
-    unfolding mayEnrol
-    may-enrol s q = rw q (new-may gs (c .guest) at e l)
+  module _ (f : not may ≡ false) where
+    here : mayEnrolIn gs (c .guest) ≡ true
+    here = sym e ∙ not-false may f
 
-    pub enrol-wrong : (k : Kind) → (w ≡ 0 → ⊥) → k ≡ kindAt w → Stops (Limit k w)
-    unfolding judge goodCaller enrols choose arguments checkAll wrongOf
-    enrol-wrong k wn ke s h q = check-yes _ _ (may-enrol s q) ∙ rw (ke, we) (first-wrong _ _ _ _ _ _ (λ z. wn (we ∙ z)))
+    pub owner-small : c .guest ≤ 8
+    owner-small = guest-high gs (c .guest) here
 
-    passed : w ≡ 0 → (s : State) → s .guests ≡ gs → judge s (callOf c (Enrol x)) 0 ≡ making s (x .pages) (enrolling s (c .guest) x)
-    unfolding judge goodCaller enrols choose arguments checkAll perform enrol
-    passed z s q =
-        let f = right x w we z in
-        check-yes _ _ (may-enrol s q) ∙ check-yes _ _ (f .0) ∙ check-yes _ _ (f .1) ∙ check-yes _ _ (f .2) ∙ check-yes _ _ (f .3) ∙ check-yes _ _ (f .4)
+    module _ (w : ℕ) (we : w ≡ wrongOf x) where
+      may-enrol : (s : State) → s .guests ≡ gs → mayEnrol s (c .guest) ≡ true
+      unfolding mayEnrol mayEnrolIn
+      may-enrol s q = rw q here
 
-    pub enrol-placed : w ≡ 0 → (r : Placed) → PlacedTo F next ss (c .guest) baseName (x .pages) r → EnrolsTo F next ss gs c x r
-    enrol-placed z (Refused a) p = λ s h q. passed z s q ∙ p s h (enrolling s (c .guest) x)
-    enrol-placed z (At u y) p = (
-      sym we ∙ z,
-      λ s h q. record { guest = record { low = guest-low gs (c .guest) at e (new-may gs (c .guest) at e l); high = new-owner gs (c .guest) at e l }; judged = passed z s q; placed = p s h },
-    )
+      pub enrol-wrong : (k : Kind) → (w ≡ 0 → ⊥) → k ≡ kindAt w → Stops (Limit k w)
+      unfolding judge goodCaller enrols choose arguments checkAll wrongOf
+      enrol-wrong k wn ke s h q = check-yes _ _ (may-enrol s q) ∙ rw (ke, we) (first-wrong _ _ _ _ _ _ (λ z. wn (we ∙ z)))
+
+      passed : w ≡ 0 → (s : State) → s .guests ≡ gs → judge s (callOf c (Enrol x)) 0 ≡ making s (x .pages) (enrolling s (c .guest) x)
+      unfolding judge goodCaller enrols choose arguments checkAll perform enrol
+      passed z s q =
+          let f = right x w we z in
+          check-yes _ _ (may-enrol s q) ∙ check-yes _ _ (f .0) ∙ check-yes _ _ (f .1) ∙ check-yes _ _ (f .2) ∙ check-yes _ _ (f .3) ∙ check-yes _ _ (f .4)
+
+      pub enrol-placed : w ≡ 0 → (r : Placed) → PlacedTo F next ss (c .guest) baseName (x .pages) r → EnrolsTo F next ss gs c x r
+      enrol-placed z (Refused a) p = λ s h q. passed z s q ∙ p s h (enrolling s (c .guest) x)
+      enrol-placed z (At u y) p = (
+        sym we ∙ z,
+        λ s h q. record { guest = record { low = guest-low gs (c .guest) here; high = owner-small }; judged = passed z s q; placed = p s h },
+      )
 
 -- what was decided, in the state that has the tables
 module _ (s : State) (c : Caller) (x : Settings) (r : Placed) (d : EnrolsTo (s .frames) (s .next) (s .spaces) (s .guests) c x r) where

@@ -1,7 +1,6 @@
--- ENROL's check 2 and those of its arguments as the code makes them: the place of a guest that may enrol, 8 for any other number;
--- the place of the first setting outside its limits, and the kind of the one at a place. And what is decided of ENROL.
+-- ENROL's check 2 and those of its arguments as the code makes them: whether a guest may enrol; the place of the first setting outside its limits, and the kind of the one at a place. And what is decided of ENROL.
 use Prim.Native.Nat.{ℕ}
-use mathlib.Core.Bool.{not}
+use mathlib.Core.Bool.{Bool, not}
 use mathlib.Core.List.{List}
 use mathlib.Core.Path.{_≡_}
 use lib.Dec.{leb, eqb}
@@ -16,13 +15,13 @@ use Rattle.model.specs.declared.Space.{Space}
 use Rattle.model.specs.Calls.{enrolling}
 use Rattle.model.specs.Names.{baseName}
 use Rattle.model.specs.Replies.{callOf}
-use Rattle.model.specs.Tables.{guestAt, guestPlace}
+use Rattle.model.specs.Tables.{guestAt}
 use Rattle.making.specs.declared.Placed.{Placed}
 use Rattle.making.specs.declared.Placed.the-variants.{Refused, At}
-use Rattle.making.specs.Placing.{DecidedTo}
+use Rattle.making.specs.Placing.{CallPlacedTo}
 
-unfoldable pub newPlace : List Guest → (guest : ℕ) → ℕ
-newPlace gs g = choose (both (both (leb 1 g) (leb g 8)) (not (guestAt gs g .enrolled))) (guestPlace g) 8
+unfoldable pub mayEnrolIn : List Guest → (guest : ℕ) → Bool
+mayEnrolIn gs g = both (both (leb 1 g) (leb g 8)) (not (guestAt gs g .enrolled))
 
 -- 0 where all are inside
 unfoldable pub wrongOf : Settings → ℕ
@@ -37,7 +36,7 @@ kindAt n = choose (eqb n 2) Pages (choose (eqb n 3) Allowance (choose (eqb n 5) 
 
 -- what ENROL decides on the tables that it looks at
 abbrev pub Decides : (frames next : ℕ) → List Space → List Guest → Caller → Settings → Placed → Type 0
-Decides F next ss gs c x r = DecidedTo F next ss gs (callOf c (Enrol x)) baseName (x .pages) (λ s. enrolling s (c .guest) x) r
+Decides F next ss gs c x r = CallPlacedTo F next ss gs (callOf c (Enrol x)) baseName (x .pages) (λ s. enrolling s (c .guest) x) r
 
 -- and where it is not refused its settings are inside their limits
 abbrev pub EnrolsTo : (frames next : ℕ) → List Space → List Guest → Caller → Settings → Placed → Type 0

@@ -3,7 +3,7 @@ ghost use Prim.Native.Nat.{_*_, _≤_, _<_};
 ghost use mathlib.Core.Bool.{true};
 ghost use mathlib.Core.Path.{_≡_};
 ghost use lib.ListN.{length};
-ghost use Rattle.enrolling.specs.Enrolling.{newPlace, wrongOf, kindAt, EnrolsTo};
+ghost use Rattle.enrolling.specs.Enrolling.{mayEnrolIn, wrongOf, kindAt, EnrolsTo};
 ghost use Rattle.model.specs.Calls.{judge, newGuest};
 ghost use Rattle.model.specs.Replies.{callOf, Carried};
 ghost use Rattle.model.specs.SoundTest.{sound};
@@ -19,21 +19,18 @@ use model::Settings;
 use model::Space;
 use model::State;
 
-// Whether ENROL may be made for a guest: 1 to 8 and not enrolled. Its place, 8 where it may not.
-fn new_place(guests: [Guest; 8], g: u32) -> usize
-    ensures { λ r. ⌜ r ≡ newPlace guests g ⌝ }
+// Whether ENROL may be made for a guest: 1 to 8 and not enrolled.
+fn may_enrol(guests: [Guest; 8], g: u32) -> bool
+    ensures { λ r. ⌜ r ≡ mayEnrolIn guests g ⌝ }
 {
     if g == 0 {
-        return 8;
+        return false;
     }
     if 8 < g {
-        return 8;
+        return false;
     }
     let at = (g - 1) as usize;
-    if guests[at].enrolled {
-        return 8;
-    }
-    at
+    !guests[at].enrolled
 }
 
 // The first of ENROL's settings outside its limits: its place, 0 where there is none.
@@ -106,8 +103,7 @@ fn decide(
     requires { ⌜ frames ≤ 512 ⌝ }
     ensures { λ r. ⌜ EnrolsTo frames next spaces guests caller settings r ⌝ }
 {
-    let at = new_place(guests, caller.guest);
-    if 8 <= at {
+    if !may_enrol(guests, caller.guest) {
         return Placed::Refused(Answer::BadCaller);
     }
     let wrong = wrong_setting(settings);

@@ -12,13 +12,13 @@ use Rattle.model.specs.Calls.{making, newSpace}
 use Rattle.model.specs.Decision.{refuse}
 use Rattle.model.specs.Searches.{freeSlot, freeRun, runIn}
 use Rattle.model.proofs.Rules.{check-yes, check-no}
-use Rattle.making.specs.Placing.{Shows, PlacedAt}
+use Rattle.making.specs.Placing.{HasTables, PlacedAt}
 
 module _ (F next : ℕ) (ss : List Space) (n slot : ℕ) (slot-is : slot ≡ freeSlot ss) where
   abbrev Stops : Answer → Type 0
-  Stops a = (s : State) → Shows s F next ss → (c : Change) → making s n c ≡ refuse a
+  Stops a = (s : State) → HasTables s F next ss → (c : Change) → making s n c ≡ refuse a
 
-  slot-in : (s : State) → Shows s F next ss → slot ≡ freeSlot (s .spaces)
+  slot-in : (s : State) → HasTables s F next ss → slot ≡ freeSlot (s .spaces)
   slot-in s h = slot-is ∙ ap freeSlot (sym (h .spaces))
 
   pub no-slot : 32 ≤ slot → Stops SlotsUsed
@@ -30,7 +30,7 @@ module _ (F next : ℕ) (ss : List Space) (n slot : ℕ) (slot-is : slot ≡ fre
   spent l p s h c = check-yes _ _ (found-yes slot _ 32 (slot-in s h) l) ∙ check-no _ _ (found-no next _ 65536 (sym (h .next)) p)
 
   module _ (first : ℕ) (first-is : first ≡ runIn F ss ss n) (l : slot < 32) (p : next < 65536) where
-    first-in : (s : State) → Shows s F next ss → first ≡ freeRun s n
+    first-in : (s : State) → HasTables s F next ss → first ≡ freeRun s n
     first-in s h = rw (h .frames, h .spaces) first-is
 
     pub no-run : F ≤ first → Stops NoRun
@@ -40,7 +40,7 @@ module _ (F next : ℕ) (ss : List Space) (n slot : ℕ) (slot-is : slot ≡ fre
         ∙ check-yes _ _ (found-yes next _ 65536 (sym (h .next)) p)
         ∙ check-no _ _ (found-no first _ _ (first-in s h) (rw (h .frames) q))
 
-    pub at-slot : (g name : ℕ) → first < F → (s : State) → Shows s F next ss → PlacedAt s g name n slot (record { id = next; owner = g; name = name; first = first; pages = n })
+    pub at-slot : (g name : ℕ) → first < F → (s : State) → HasTables s F next ss → PlacedAt s g name n slot (record { id = next; owner = g; name = name; first = first; pages = n })
     unfolding newSpace
     at-slot g name q s h = record {
       slot = slot-in s h;

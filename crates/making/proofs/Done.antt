@@ -28,7 +28,7 @@ use Rattle.model.proofs.Runs.{lowest-run, has-run}
 use Rattle.model.proofs.SoundTest.{sound-decides}
 use Rattle.making.specs.declared.Placed.{Placed}
 use Rattle.making.specs.declared.Placed.the-variants.{Refused, At}
-use Rattle.making.specs.Placing.{Shows, PlacedAt, Granted, DecidedTo}
+use Rattle.making.specs.Placing.{HasTables, PlacedAt, CallPlacedAt, CallPlacedTo}
 
 module _ (s : State) (owner name pages u : ℕ) (x : Space) (m : List ℕ) (at : PlacedAt s owner name pages u x) where
   clear-fits : length m ≡ s .frames * 4096 → x .first * 4096 + x .pages * 4096 ≤ length m
@@ -61,18 +61,18 @@ module _ (s : State) (owner name pages u : ℕ) (x : Space) (m : List ℕ) (at :
         })))
 
 -- What a call has decided, in the state that has the tables.
-module _ (s : State) (k : Call) (name pages : ℕ) (ch : State → Change) (r : Placed) (d : DecidedTo (s .frames) (s .next) (s .spaces) (s .guests) k name pages ch r) (m : List ℕ) where
-  known : (y : Placed) → r ≡ y → DecidedTo (s .frames) (s .next) (s .spaces) (s .guests) k name pages ch y
-  known y e = subst (DecidedTo (s .frames) (s .next) (s .spaces) (s .guests) k name pages ch) e d
+module _ (s : State) (k : Call) (name pages : ℕ) (ch : State → Change) (r : Placed) (d : CallPlacedTo (s .frames) (s .next) (s .spaces) (s .guests) k name pages ch r) (m : List ℕ) where
+  known : (y : Placed) → r ≡ y → CallPlacedTo (s .frames) (s .next) (s .spaces) (s .guests) k name pages ch y
+  known y e = subst (CallPlacedTo (s .frames) (s .next) (s .spaces) (s .guests) k name pages ch) e d
 
-  shown : Shows s (s .frames) (s .next) (s .spaces)
+  shown : HasTables s (s .frames) (s .next) (s .spaces)
   shown = record { frames = refl; next = refl; spaces = refl }
 
   pub refuses : (a : Answer) → r ≡ Refused a → Carried s (judge s k 0) (reply a s) m m
   refuses a e = refused s _ a m (known (Refused a) e s shown refl)
 
   module _ (u : ℕ) (x : Space) (e : r ≡ At u x) where
-    granted : Granted s k name pages (ch s) u x
+    granted : CallPlacedAt s k name pages (ch s) u x
     granted = known (At u x) e s shown refl
 
     pub slot-low : u < 32

@@ -1,5 +1,5 @@
 -- What is decided of a call that makes a space, on the tables that it looks at: it is refused, or the space goes into a slot.
-use Prim.Native.Nat.{ℕ, _≤_, _<_}
+use Prim.Native.Nat.{ℕ, _<_}
 use mathlib.Core.List.{List}
 use mathlib.Core.Path.{_≡_}
 use Rattle.model.specs.declared.Call.{Call}
@@ -16,7 +16,7 @@ use Rattle.making.specs.declared.Placed.{Placed}
 use Rattle.making.specs.declared.Placed.the-variants.{Refused, At}
 
 -- the state s has these tables
-pub record Shows (s : State) (F i : ℕ) (ss : List Space) : Type 0 where
+pub record HasTables (s : State) (F i : ℕ) (ss : List Space) : Type 0 where
   pub frames : s .frames ≡ F
   pub next : s .next ≡ i
   pub spaces : s .spaces ≡ ss
@@ -31,16 +31,16 @@ pub record PlacedAt (s : State) (guest name pages u : ℕ) (x : Space) : Type 0 
 
 -- these checks, in every state with these tables
 abbrev pub PlacedTo : (frames next : ℕ) → List Space → (guest name pages : ℕ) → Placed → Type 0
-PlacedTo F next ss g name n (Refused a) = (s : State) → Shows s F next ss → (c : Change) → making s n c ≡ refuse a
-PlacedTo F next ss g name n (At u x) = (s : State) → Shows s F next ss → PlacedAt s g name n u x
+PlacedTo F next ss g name n (Refused a) = (s : State) → HasTables s F next ss → (c : Change) → making s n c ≡ refuse a
+PlacedTo F next ss g name n (At u x) = (s : State) → HasTables s F next ss → PlacedAt s g name n u x
 
 -- the call k passes all its checks: it makes the space x of that name in slot u, by the change c
-pub record Granted (s : State) (k : Call) (name pages : ℕ) (c : Change) (u : ℕ) (x : Space) : Type 0 where
+pub record CallPlacedAt (s : State) (k : Call) (name pages : ℕ) (c : Change) (u : ℕ) (x : Space) : Type 0 where
   pub guest : IsGuest (k .caller .guest)
   pub judged : judge s k 0 ≡ making s pages c
   pub placed : PlacedAt s (k .caller .guest) name pages u x
 
 -- the call k, which makes a space by the change c, is decided in every state with these tables
-abbrev pub DecidedTo : (frames next : ℕ) → List Space → List Guest → Call → (name pages : ℕ) → (State → Change) → Placed → Type 0
-DecidedTo F next ss gs k name n c (Refused a) = (s : State) → Shows s F next ss → s .guests ≡ gs → judge s k 0 ≡ refuse a
-DecidedTo F next ss gs k name n c (At u x) = (s : State) → Shows s F next ss → s .guests ≡ gs → Granted s k name n (c s) u x
+abbrev pub CallPlacedTo : (frames next : ℕ) → List Space → List Guest → Call → (name pages : ℕ) → (State → Change) → Placed → Type 0
+CallPlacedTo F next ss gs k name n c (Refused a) = (s : State) → HasTables s F next ss → s .guests ≡ gs → judge s k 0 ≡ refuse a
+CallPlacedTo F next ss gs k name n c (At u x) = (s : State) → HasTables s F next ss → s .guests ≡ gs → CallPlacedAt s k name n (c s) u x

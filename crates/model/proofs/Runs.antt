@@ -3,7 +3,7 @@
 use Prim.Native.Nat.{ℕ, _+_, _-_, _≤_, _<_}
 use mathlib.Core.Bool.{Bool, true, false, not}
 use mathlib.Core.List.{List}
-use mathlib.Core.Logic.{_⊎_, inl, inr}
+use mathlib.Core.Logic.{inl, inr}
 use mathlib.Core.Path.{_≡_, refl, ap}
 use native.Mathlib.Decide.{decLe}
 use native.Mathlib.Omega.{arith}
@@ -21,7 +21,7 @@ use Rattle.model.specs.declared.Standing.the-variants.{Unused}
 use Rattle.model.specs.declared.State.{State}
 use Rattle.model.specs.Frames.{Layout, layout, frameOf, hasFrame, frameFree}
 use Rattle.model.specs.Leaves.{inRun}
-use Rattle.model.specs.Runs.{IsRun, AfterSpace, RunStarts}
+use Rattle.model.specs.Runs.{IsRun, AfterSpace, StartsAt, RunStarts}
 use Rattle.model.specs.Searches.{freeSlot, runFree, runIn, freeRun, isUnused, freeEntry}
 use Rattle.model.specs.Sizes.{slotCount}
 use Rattle.model.specs.Sound.{HasFrame, Free, Live}
@@ -109,12 +109,12 @@ module _ (s : State) (n f g : ℕ) (low : Lowest (IsRun s n) (s .frames) f) (b :
 pub run-starts : RunStarts
 run-starts s n f low b = go (decLe f 0)
   where
-    go : Dec (f ≤ 0) → (f ≡ 0) ⊎ AfterSpace s f
+    go : Dec (f ≤ 0) → StartsAt s f
     go (yes z) = inl (omega arith)
     go (no z) = inr (after-space s n f (f - 1) low b (omega arith) (decLe 1 n))
 
 -- the run that ENROL and CREATE take
-pub free-run-starts : (s : State) (n : ℕ) → freeRun s n < s .frames → (freeRun s n ≡ 0) ⊎ AfterSpace s (freeRun s n)
+pub free-run-starts : (s : State) (n : ℕ) → freeRun s n < s .frames → StartsAt s (freeRun s n)
 free-run-starts s n = run-starts s n (freeRun s n) (lowest-run s n)
 
 -- answer 9: "32 spaces live"

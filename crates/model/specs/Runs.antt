@@ -25,7 +25,10 @@ pub record AfterSpace (s : State) (f : ℕ) : Type 0 where
   pub last : page + 1 ≡ spaceAt (s .spaces) slot .pages
   pub follows : frameOf (layout s) slot page + 1 ≡ f
 
--- "the lowest run of the asked length, where there is one, starts at frame 0 or right after a live space's last frame". The request
--- asks it of sound states; it holds in every state.
+-- where a run may have to start: "at frame 0 or right after a live space's last frame"
+abbrev pub StartsAt : State → (frame : ℕ) → Type 0
+StartsAt s f = (f ≡ 0) ⊎ AfterSpace s f
+
+-- "the lowest run of the asked length, where there is one, starts" there. The request asks it of sound states; it holds in every state.
 abbrev pub RunStarts : Type 0
-RunStarts = (s : State) (n f : ℕ) → Lowest (IsRun s n) (s .frames) f → f < s .frames → (f ≡ 0) ⊎ AfterSpace s f
+RunStarts = (s : State) (n f : ℕ) → Lowest (IsRun s n) (s .frames) f → f < s .frames → StartsAt s f

@@ -33,8 +33,8 @@ fn meets(id: u32, start: u16, size: u16, first: u32, pages: u32) -> bool
 // Where the lowest run of free frames starts; the number of frames where there is none. Where a space has a frame of the
 // run that is tried, it has one of every run that starts before its end, so the next to try starts there. The slots are asked
 // round a ring, until a whole round of them has no frame of the run that is tried. Spaces tend to stand in the order of their
-// frames, so that the slot after the one that was met mostly holds the next space: 32 spaces in order take 64 questions, and
-// would take 560 if every start were asked of slot 0 first. Numbers are read out of a slot, and no space is copied.
+// frames, so that the slot after the one that was met mostly holds the next space: 31 spaces in order take 63 questions, and
+// would take 528 if every start were asked of slot 0 first. Numbers are read out of a slot, and no space is copied.
 pub fn free_run(spaces: [Space; 32], frames: u32, pages: u32) -> u32
     requires { ⌜ 1 ≤ pages ⌝ }
     ensures { λ r. ⌜ r ≡ runIn frames spaces spaces pages ⌝ }

@@ -1,5 +1,5 @@
 -- `enrolling::decide` meets its contract. Assumes nothing.
-use Rattle.enrolling.proofs.Enrolled.{enrol-caller, enrol-wrong, enrol-placed, pages-low, pages-high, new-owner}
+use Rattle.enrolling.proofs.Enrolled.{enrol-caller, enrol-wrong, enrol-placed, pages-low, pages-high, owner-small}
 use borrow.Author.Needs.{needs}
 use Rattle.enrolling.proofs.decide.Statement.{statement}
 use Rattle.enrolling.proofs.decide.Tie as tie
@@ -11,7 +11,7 @@ returns-2 : tie.Need-returns-2
 returns-2 c = search enrol-wrong
 
 place-requires : tie.Need-place-requires
-place-requires c κs = (search needs, search pages-low, search pages-high, search new-owner)
+place-requires c κs = (search needs, search pages-low, search pages-high, search owner-small)
 
 returns-3 : tie.Need-returns-3
 returns-3 c = search enrol-placed
