@@ -25,10 +25,11 @@ pub record AfterSpace (s : State) (f : ℕ) : Type 0 where
   pub last : page + 1 ≡ spaceAt (s .spaces) slot .pages
   pub follows : frameOf (layout s) slot page + 1 ≡ f
 
--- where a run may have to start: "at frame 0 or right after a live space's last frame"
+-- the frame f is where 02 says that the lowest run starts: "at frame 0 or right after a live space's last frame"
 abbrev pub StartsAt : State → (frame : ℕ) → Type 0
 StartsAt s f = (f ≡ 0) ⊎ AfterSpace s f
 
--- "the lowest run of the asked length, where there is one, starts" there. The request asks it of sound states; it holds in every state.
+-- "the lowest run of the asked length, where there is one, starts" there. The request asks it of sound states; it holds in every
+-- state.
 abbrev pub RunStarts : Type 0
 RunStarts = (s : State) (n f : ℕ) → Lowest (IsRun s n) (s .frames) f → f < s .frames → StartsAt s f
