@@ -60,6 +60,8 @@ pub fn number(a: Answer) -> u32
         Answer::PrimarySpace => 20,
         Answer::LineNotRead => 21,
         Answer::KeyProtection => 22,
+        Answer::RoomTooSmall => 41,
+        Answer::NotWritten => 42,
     }
 }
 

@@ -10,13 +10,13 @@ use borrow.Author.Tests.{le-leb, lt-leb}
 use Rattle.lists.proofs.Choice.{yes!, no! }
 use Rattle.model.specs.declared.Request.{Request}
 use Rattle.model.specs.declared.Request.the-variants.{NotRead}
-use Rattle.model.specs.Lines.{fields, is, forms, makeBy, readFields, readBy, readAll, readLine}
+use Rattle.model.specs.Lines.{fields, is, forms, makeBy, readFields, readBy, readAll, readLine, calls, formAt}
 use Rattle.fields.specs.declared.Field.{Field}
 use Rattle.fields.specs.declared.Field.the-variants.{Is, Bad}
 use Rattle.fields.specs.Fields.{fieldFrom, endFrom, found, wordField}
 use Rattle.fields.proofs.Spelling.{as-is, as-bad}
 use Rattle.lines.specs.Fields.{following, DataAt}
-use Rattle.lines.specs.Tables.{calls, formAt, placeOf}
+use Rattle.lines.specs.Tables.{placeOf}
 use Rattle.lines.proofs.Cuts.{fields-at, end-inside}
 use Rattle.lines.proofs.Words.{first-bytes, read-unnamed, read-unknown, read-known}
 

@@ -6,8 +6,7 @@ use mathlib.Core.Path.{_≡_, refl, sym, ap, _∙_}
 use native.Mathlib.Omega.{arith}
 use lib.ListN.{length, getD, drop, length-drop}
 use Rattle.lists.proofs.Choice.{true-false}
-use Rattle.model.specs.Lines.{FieldKind, number, name, right, hex, Form, forms, at, stores, lengthOf}
-use Rattle.lines.specs.Tables.{calls, noForm, formAt}
+use Rattle.model.specs.Lines.{FieldKind, number, name, right, hex, Form, forms, at, stores, lengthOf, calls, noForm, formAt}
 
 unfoldable pub noData : List FieldKind → Bool
 noData [] = true

@@ -11,10 +11,10 @@ use Rattle.lists.specs.Places.{every, lowest, lowestFrom}
 use Rattle.lists.proofs.Places.{every-at}
 use Rattle.fields.specs.Fields.{kindNumber}
 use Rattle.fields.proofs.KindNumbers.{kind-small}
-use Rattle.lines.specs.Tables.{calls, noForm, formAt, shapeOf, callNames, placeOf, lowered, madeBy}
+use Rattle.lines.specs.Tables.{shapeOf, callNames, placeOf, lowered, madeBy}
 use Rattle.model.specs.declared.Request.{Request}
 use Rattle.model.specs.declared.Request.the-variants.{NotRead}
-use Rattle.model.specs.Lines.{FieldKind, forms}
+use Rattle.model.specs.Lines.{FieldKind, forms, calls, noForm, formAt}
 
 -- shapes
 pub shape-none : (k : FieldKind) (ks : List FieldKind) → shapeOf (k ∷ ks) ≡ 0 → ⊥

@@ -17,7 +17,7 @@ use Rattle.fields.specs.Fields.{fieldFrom, endFrom, found, shortKind}
 use Rattle.fields.proofs.KindNumbers.{kind-is, kind-data, data-kind}
 use Rattle.fields.proofs.Spelling.{as-is, as-bad, spelt-is}
 use Rattle.lines.specs.Fields.{following, DataAt}
-use Rattle.lines.specs.Tables.{calls, formAt, shapeOf, lowered, madeBy}
+use Rattle.lines.specs.Tables.{shapeOf, lowered, madeBy}
 use Rattle.lines.proofs.Cuts.{fields-at, end-inside, following-at, data-alone, data-last}
 use Rattle.lines.proofs.Storing.{storing-at, with-data, without-data}
 use Rattle.lines.proofs.Tables.{enough, few-fields, shape-none, shape-first, shape-rest}
@@ -25,7 +25,7 @@ use Rattle.lines.proofs.Values.{lowered-is}
 use Rattle.lists.proofs.Choice.{both-right}
 use Rattle.model.specs.declared.Request.{Request}
 use Rattle.model.specs.declared.Request.the-variants.{NotRead}
-use Rattle.model.specs.Lines.{Spelt, is, makeBy, Values, values, unread, andThen, FieldKind, number, hex, fieldOf, hexField, readFields, stores}
+use Rattle.model.specs.Lines.{Spelt, is, makeBy, Values, values, unread, andThen, FieldKind, number, hex, fieldOf, hexField, readFields, stores, calls, formAt}
 
 -- the values ns after those of vs, where all are read
 unfoldable pub after : List ℕ → Values → Values

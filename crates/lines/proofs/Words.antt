@@ -15,11 +15,11 @@ use Rattle.lists.specs.Places.{every, allFrom}
 use Rattle.lists.proofs.Choice.{yes!, no!, choose-elim, both-left, both-right, both-intro, not-so, true-false}
 use Rattle.lists.proofs.Places.{every-at, lowest-holds, lowest-least}
 use Rattle.model.specs.declared.Request.the-variants.{NotRead}
-use Rattle.model.specs.Lines.{is, bad, spelt, packed, Form, forms, sameBytes, makeBy, readFields, readBy}
+use Rattle.model.specs.Lines.{is, bad, spelt, packed, Form, forms, sameBytes, makeBy, readFields, readBy, calls, noForm, formAt}
 use Rattle.fields.specs.Fields.{firstField, wordField}
 use Rattle.fields.proofs.Readings.{Bytes}
 use Rattle.fields.proofs.Spelling.{spelt-is}
-use Rattle.lines.specs.Tables.{calls, noForm, formAt, callNames, placeOf}
+use Rattle.lines.specs.Tables.{callNames, placeOf}
 
 -- two names of bytes that are the same number are the same name
 tail-bytes : (b : ℕ) (f : List ℕ) → Bytes (b ∷ f) → Bytes f

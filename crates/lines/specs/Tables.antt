@@ -2,24 +2,13 @@
 use Prim.Native.Nat.{ℕ, _+_, _*_, _%_}
 use mathlib.Core.List.{List, [], _∷_, map}
 use lib.Dec.{eqb}
-use lib.ListN.{length, getD}
+use lib.ListN.{getD}
 use Rattle.lists.specs.Places.{lowest}
 use Rattle.model.specs.declared.Operation.{Operation}
 use Rattle.model.specs.declared.Request.{Request}
-use Rattle.model.specs.declared.Request.the-variants.{Call, NotRead}
-use Rattle.model.specs.Lines.{Form, forms, FieldKind, number, name, right, hex, packed, at}
+use Rattle.model.specs.declared.Request.the-variants.{Call}
+use Rattle.model.specs.Lines.{forms, calls, formAt, FieldKind, number, name, right, hex, packed, at}
 use Rattle.fields.specs.Fields.{kindNumber}
-
--- how many names a line may begin with
-abbrev pub calls : ℕ
-calls = length forms
-
--- the forms by number, from 0 on; past the last, one that reads nothing
-abbrev pub noForm : Form
-noForm = record { word = []; kinds = []; make = λ v. NotRead }
-
-abbrev pub formAt : ℕ → Form
-formAt p = getD forms p noForm
 
 -- the kinds of a call's fields as octal digits, the first the lowest
 unfoldable pub shapeOf : List FieldKind → ℕ

@@ -7,7 +7,7 @@ use mathlib.Core.Path.{_≡_, refl, sym, ap₂, _∙_}
 use lib.Dec.{eqb}
 use Rattle.lists.specs.Choice.{choose, both}
 use Rattle.model.specs.declared.Answer.{Answer}
-use Rattle.model.specs.declared.Answer.the-variants.{Done, Unsound, BadCaller, Limit, NameTaken, NoSpace, NotOwner, NoSharing, AllowanceUsed, SlotsUsed, NoRun, NoIdentification, NotPermitted, ListFull, AletSpecification, AlenTranslation, AddressingCapability, Addressing, Protection, SpecialOperation, PrimarySpace, LineNotRead, KeyProtection}
+use Rattle.model.specs.declared.Answer.the-variants.{Done, Unsound, BadCaller, Limit, NameTaken, NoSpace, NotOwner, NoSharing, AllowanceUsed, SlotsUsed, NoRun, NoIdentification, NotPermitted, ListFull, AletSpecification, AlenTranslation, AddressingCapability, Addressing, Protection, SpecialOperation, PrimarySpace, LineNotRead, KeyProtection, RoomTooSmall, NotWritten}
 use Rattle.model.specs.declared.Kind.{Kind}
 use Rattle.model.specs.declared.Kind.the-variants.{Pages, Allowance, ListSize, Flag, Name, Register, Length, OtherGuest, Frames, Key}
 use Rattle.model.specs.Answers.{limitNumber, namesArgument, number, value}
@@ -48,7 +48,9 @@ answerFrom n v =
     (choose (eqb n 19) SpecialOperation
     (choose (eqb n 20) PrimarySpace
     (choose (eqb n 21) LineNotRead
-    (choose (eqb n 22) KeyProtection (Limit (kindFrom n) v))))))))))))))))))))))
+    (choose (eqb n 22) KeyProtection
+    (choose (eqb n 41) RoomTooSmall
+    (choose (eqb n 42) NotWritten (Limit (kindFrom n) v))))))))))))))))))))))))
 
 limit-back : (k : Kind) (p : ℕ) → answerFrom (limitNumber k) p ≡ Limit k p
 unfolding answerFrom kindFrom limitNumber choose
@@ -88,6 +90,8 @@ answer-back SpecialOperation = refl
 answer-back PrimarySpace = refl
 answer-back LineNotRead = refl
 answer-back KeyProtection = refl
+answer-back RoomTooSmall = refl
+answer-back NotWritten = refl
 
 pub answer-told : (a b : Answer) → number a ≡ number b → value a ≡ value b → a ≡ b
 answer-told a b n v = sym (answer-back a) ∙ ap₂ answerFrom n v ∙ answer-back b
@@ -131,3 +135,5 @@ other-unnamed SpecialOperation n = refl
 other-unnamed PrimarySpace n = refl
 other-unnamed LineNotRead n = refl
 other-unnamed KeyProtection n = refl
+other-unnamed RoomTooSmall n = refl
+other-unnamed NotWritten n = refl

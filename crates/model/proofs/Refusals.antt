@@ -8,7 +8,7 @@ use borrow.Author.Tests.{eq-eqb}
 use Rattle.lists.specs.Choice.{either}
 use Rattle.lists.proofs.Choice.{true-false}
 use Rattle.model.specs.declared.Answer.{Answer}
-use Rattle.model.specs.declared.Answer.the-variants.{Done, Unsound, BadCaller, Limit, NameTaken, NoSpace, NotOwner, NoSharing, AllowanceUsed, SlotsUsed, NoRun, NoIdentification, NotPermitted, ListFull, AletSpecification, AlenTranslation, AddressingCapability, Addressing, Protection, SpecialOperation, PrimarySpace, LineNotRead, KeyProtection}
+use Rattle.model.specs.declared.Answer.the-variants.{Done, Unsound, BadCaller, Limit, NameTaken, NoSpace, NotOwner, NoSharing, AllowanceUsed, SlotsUsed, NoRun, NoIdentification, NotPermitted, ListFull, AletSpecification, AlenTranslation, AddressingCapability, Addressing, Protection, SpecialOperation, PrimarySpace, LineNotRead, KeyProtection, RoomTooSmall, NotWritten}
 use Rattle.model.specs.declared.Call.{Call}
 use Rattle.model.specs.declared.Caller.{Caller}
 use Rattle.model.specs.declared.Operation.{Operation}
@@ -98,6 +98,8 @@ refused-value SpecialOperation e f = refl
 refused-value PrimarySpace e f = refl
 refused-value LineNotRead e f = refl
 refused-value KeyProtection e f = refl
+refused-value RoomTooSmall e f = refl
+refused-value NotWritten e f = refl
 
 -- "Every refusal of a call, later numbers included, changes no table, no scratch byte and no caller's buffer"
 pub record Unchanged (m : Machine) (i : Issue) : Type 0 where

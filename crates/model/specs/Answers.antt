@@ -4,7 +4,7 @@ use mathlib.Core.Bool.{Bool}
 use lib.Dec.{leb}
 use Rattle.lists.specs.Choice.{both}
 use Rattle.model.specs.declared.Answer.{Answer}
-use Rattle.model.specs.declared.Answer.the-variants.{Done, Unsound, BadCaller, Limit, NameTaken, NoSpace, NotOwner, NoSharing, AllowanceUsed, SlotsUsed, NoRun, NoIdentification, NotPermitted, ListFull, AletSpecification, AlenTranslation, AddressingCapability, Addressing, Protection, SpecialOperation, PrimarySpace, LineNotRead, KeyProtection}
+use Rattle.model.specs.declared.Answer.the-variants.{Done, Unsound, BadCaller, Limit, NameTaken, NoSpace, NotOwner, NoSharing, AllowanceUsed, SlotsUsed, NoRun, NoIdentification, NotPermitted, ListFull, AletSpecification, AlenTranslation, AddressingCapability, Addressing, Protection, SpecialOperation, PrimarySpace, LineNotRead, KeyProtection, RoomTooSmall, NotWritten}
 use Rattle.model.specs.declared.Kind.{Kind}
 use Rattle.model.specs.declared.Kind.the-variants.{Pages, Allowance, ListSize, Flag, Name, Register, Length, OtherGuest, Frames, Key}
 
@@ -52,6 +52,9 @@ number PrimarySpace = 20
 number LineNotRead = 21
 -- paper 02, M-100: "22, key protection"
 number KeyProtection = 22
+-- paper 02, M-104: "room too small for the line, 41; a request whose name or data the reader wouldn't take, 42"
+number RoomTooSmall = 41
+number NotWritten = 42
 
 -- "Every refusal .. carries the value 0 unless its rule names another." M-102: "The value is the argument's place"
 unfoldable pub value : Answer → ℕ
@@ -78,3 +81,5 @@ value SpecialOperation = 0
 value PrimarySpace = 0
 value LineNotRead = 0
 value KeyProtection = 0
+value RoomTooSmall = 0
+value NotWritten = 0

@@ -50,3 +50,9 @@ storesBytes (toSpace r a) = true
 
 abbrev pub isStore : Operation → Bool
 isStore k = storesBytes (classOf k .moves)
+
+-- whether bytes go to or from a space
+abbrev pub movesBytes : Moves → Bool
+movesBytes noBytes = false
+movesBytes (fromSpace r a) = true
+movesBytes (toSpace r a) = true

@@ -44,3 +44,7 @@ pub mod Lines
 -- of M-102: the place of an argument in a line
 pub mod Places
 pub mod Session
+-- of M-104, "Write sessions, too"
+pub mod Parts
+pub mod Written
+pub mod Rewritten

@@ -163,6 +163,16 @@ forms =
     ∷ form "BLOCK" (number ∷ number ∷ number ∷ number ∷ number ∷ []) (λ v. call v (Block (at v 1) (at v 2) (at v 3) (at v 4)) 0)
     ∷ []
 
+-- how many forms there are; each by its number, from 0 on; past the last, one that reads nothing
+abbrev pub calls : ℕ
+calls = length forms
+
+abbrev pub noForm : Form
+noForm = record { word = []; kinds = []; make = λ v. NotRead }
+
+abbrev pub formAt : ℕ → Form
+formAt p = getD forms p noForm
+
 unfoldable pub sameBytes : List ℕ → List ℕ → Bool
 sameBytes [] [] = true
 sameBytes [] (b ∷ bs) = false

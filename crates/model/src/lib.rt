@@ -115,6 +115,8 @@ pub enum Answer {
     PrimarySpace,
     LineNotRead,
     KeyProtection,
+    RoomTooSmall,
+    NotWritten,
 }
 
 // Who calls.

@@ -97,10 +97,20 @@ returns-23 : tie.Need-returns-23
 unfolding number
 returns-23 c = sym (ap number (c .enum-told22 .given .1))
 
+returns-24 : tie.Need-returns-24
+unfolding number
+returns-24 c = sym (ap number (c .enum-told23 .given .1))
+
+returns-25 : tie.Need-returns-25
+unfolding number
+returns-25 c = sym (ap number (c .enum-told24 .given .1))
+
 pub number-spec : {M : Type 1} → statement M
 number-spec =
     tie.close
     (tie.spec
+    (λ c. search needs)
+    (λ c. search needs)
     (λ c. search needs)
     (λ c. search needs)
     (λ c. search needs)
@@ -147,4 +157,6 @@ number-spec =
     returns-20
     returns-21
     returns-22
-    returns-23)
+    returns-23
+    returns-24
+    returns-25)

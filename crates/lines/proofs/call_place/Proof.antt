@@ -6,8 +6,8 @@ use lib.Dec.{eqb}
 use lib.ListN.{getD}
 use Rattle.lists.specs.Places.{lowestFrom}
 use Rattle.lists.proofs.Rules.{loops}
-use Rattle.model.specs.Lines.{forms}
-use Rattle.lines.specs.Tables.{calls, placeOf}
+use Rattle.model.specs.Lines.{forms, calls}
+use Rattle.lines.specs.Tables.{placeOf}
 use Rattle.lines.proofs.Tables.{place-from}
 use borrow.Author.Needs.{needs}
 use Rattle.lines.proofs.call_place.Statement.{statement}
