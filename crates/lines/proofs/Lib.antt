@@ -2,7 +2,6 @@
 pub mod Tables
 pub mod Values
 pub mod Cuts
-pub mod Storing
 pub mod Taken
 pub mod Words
 pub mod Line

@@ -16,7 +16,7 @@ use Rattle.fields.specs.declared.Field.the-variants.{Is, Bad}
 use Rattle.fields.specs.Fields.{fieldFrom, endFrom, found, wordField}
 use Rattle.fields.proofs.Spelling.{as-is, as-bad}
 use Rattle.lines.specs.Fields.{following, DataAt}
-use Rattle.lines.specs.Tables.{placeOf}
+use Rattle.lines.specs.Made.{placeOf}
 use Rattle.lines.proofs.Cuts.{fields-at, end-inside}
 use Rattle.lines.proofs.Words.{first-bytes, read-unnamed, read-unknown, read-known}
 

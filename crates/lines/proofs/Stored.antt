@@ -16,7 +16,7 @@ use Rattle.model.specs.declared.Request.the-variants.{NotRead}
 use Rattle.model.specs.Lines.{fields, is, hexDigits, hexField, hexBytes, number, hex, fieldOf, Values, values, unread, readFields, Form, forms, at, sameBytes, makeBy, readBy, readAll, readLine, stores, lengthOf, dataOf}
 use Rattle.lines.specs.Fields.{DataAt}
 use Rattle.lines.proofs.Cuts.{last-of-five}
-use Rattle.lines.proofs.Storing.{Storing, never, last, Each, none, and, each}
+use Rattle.forms.proofs.Storing.{Storing, never, last, Each, none, and, each}
 use Rattle.fields.proofs.Decoding.{bytes-length}
 use Rattle.fields.proofs.Spelling.{spelt-is}
 use Rattle.lines.proofs.Values.{first-of, none-of}

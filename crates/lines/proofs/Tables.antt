@@ -1,69 +1,24 @@
--- The tables say what the model's forms say. Assumes nothing.
-use Prim.Native.Nat.{ℕ, zero, suc, _/_, _%_, _≤_, _<_}
-use mathlib.Core.Bool.{Bool, true}
-use mathlib.Core.List.{List, _∷_}
-use mathlib.Core.Path.{_≡_, sym, ap}
-use native.Mathlib.Omega.{arith}
-use lib.Dec.{eqb, leb}
-use lib.ListN.{length, getD, List·getD-eq-default}
-use borrow.Author.Tests.{leb-true}
-use Rattle.lists.specs.Places.{every, lowest, lowestFrom}
-use Rattle.lists.proofs.Places.{every-at}
-use Rattle.fields.specs.Fields.{kindNumber}
-use Rattle.fields.proofs.KindNumbers.{kind-small}
-use Rattle.lines.specs.Tables.{shapeOf, callNames, placeOf, lowered, madeBy}
+-- Which call a name names, and what its values make, by the call's number. Assumes nothing.
+use Prim.Native.Nat.{ℕ}
+use mathlib.Core.List.{List}
+use mathlib.Core.Path.{_≡_, ap}
+use lib.Dec.{eqb}
+use lib.ListN.{getD}
+use Rattle.lists.specs.Places.{lowest, lowestFrom}
 use Rattle.model.specs.declared.Request.{Request}
 use Rattle.model.specs.declared.Request.the-variants.{NotRead}
-use Rattle.model.specs.Lines.{FieldKind, forms, calls, noForm, formAt}
-
--- shapes
-pub shape-none : (k : FieldKind) (ks : List FieldKind) → shapeOf (k ∷ ks) ≡ 0 → ⊥
-unfolding shapeOf
-shape-none k ks e = omega (arith, kind-small k)
-
-pub shape-first : (k : FieldKind) (ks : List FieldKind) → shapeOf (k ∷ ks) % 4 ≡ kindNumber k % 4
-unfolding shapeOf
-shape-first k ks = omega arith
-
-pub shape-rest : (k : FieldKind) (ks : List FieldKind) → shapeOf (k ∷ ks) / 8 ≡ shapeOf ks
-unfolding shapeOf
-shape-rest k ks = omega (arith, kind-small k)
-
--- by the call's number
-pub shaped : (p n r : ℕ) → p ≡ n → r ≡ shapeOf (formAt n .kinds) → r ≡ shapeOf (formAt p .kinds)
-shaped p n r e q = rw e q
-
--- no call has more than n fields, by a test that is computed for the code's n
-abbrev pub enough : ℕ → Bool
-enough n = every (λ i. leb (length (formAt i .kinds)) n) calls
-
-pub few-fields : (p n : ℕ) → enough n ≡ true → p < calls → length (formAt p .kinds) ≤ n
-few-fields p n e h = leb-true (length (formAt p .kinds)) n (every-at (λ i. leb (length (formAt i .kinds)) n) calls e p h)
+use Rattle.model.specs.Lines.{calls}
+use Rattle.forms.specs.Tables.{callNames}
+use Rattle.forms.proofs.Tables.{NoneBelow, no-form}
+use Rattle.lines.specs.Made.{placeOf, lowered, madeBy}
 
 -- the request that the values of a call make, by the call's number
 pub made : (p n : ℕ) (r : Request) (v : List ℕ) → p ≡ n → r ≡ madeBy n v → r ≡ madeBy p v
 made p n r v e q = rw e q
 
--- a number that is none of those below n, as a match tells it
-unfoldable pub NoneBelow : (p n : ℕ) → Type 0
-NoneBelow p zero = Unit {0}
-NoneBelow p (suc n) = NoneBelow p n × (p ≡ n → ⊥)
-
-above : (p n : ℕ) → NoneBelow p n → n ≤ p
-unfolding NoneBelow
-above p zero r = omega arith
-above p (suc n) r = omega (arith, above p n (r .0), r .1)
-
-no-form : (p : ℕ) → NoneBelow p calls → noForm ≡ formAt p
-no-form p r = sym (List·getD-eq-default forms noForm {n = p} (above p calls r))
-
 pub made-none : (p : ℕ) (v : List ℕ) → NoneBelow p calls → NotRead ≡ madeBy p v
 unfolding madeBy
 made-none p v r = ap (λ f. f .make (lowered (f .kinds) 0 v)) (no-form p r)
-
-pub shaped-none : (p : ℕ) → NoneBelow p calls → 0 ≡ shapeOf (formAt p .kinds)
-unfolding shapeOf
-shaped-none p r = ap (λ f. shapeOf (f .kinds)) (no-form p r)
 
 -- the place of a name in the table
 pub place-from : (names : List ℕ) (n : ℕ) → names ≡ callNames → placeOf n ≡ lowestFrom (λ k. eqb (getD names k 0) n) 0 calls

@@ -17,10 +17,11 @@ use Rattle.fields.specs.Fields.{fieldFrom, endFrom, found, shortKind}
 use Rattle.fields.proofs.KindNumbers.{kind-is, kind-data, data-kind}
 use Rattle.fields.proofs.Spelling.{as-is, as-bad, spelt-is}
 use Rattle.lines.specs.Fields.{following, DataAt}
-use Rattle.lines.specs.Tables.{shapeOf, lowered, madeBy}
+use Rattle.forms.specs.Tables.{shapeOf}
+use Rattle.lines.specs.Made.{lowered, madeBy}
 use Rattle.lines.proofs.Cuts.{fields-at, end-inside, following-at, data-alone, data-last}
-use Rattle.lines.proofs.Storing.{storing-at, with-data, without-data}
-use Rattle.lines.proofs.Tables.{enough, few-fields, shape-none, shape-first, shape-rest}
+use Rattle.forms.proofs.Storing.{storing-at, with-data, without-data}
+use Rattle.forms.proofs.Tables.{enough, few-fields, shape-none, shape-first, shape-rest}
 use Rattle.lines.proofs.Values.{lowered-is}
 use Rattle.lists.proofs.Choice.{both-right}
 use Rattle.model.specs.declared.Request.{Request}

@@ -8,7 +8,7 @@ use lib.ListN.{length}
 use borrow.Author.Tests.{leb-true}
 use Rattle.lists.proofs.Choice.{both-left, both-right}
 use Rattle.fields.proofs.Spelling.{spelt-is}
-use Rattle.lines.specs.Tables.{low, lowered}
+use Rattle.lines.specs.Made.{low, lowered}
 use Rattle.model.specs.Lines.{Spelt, is, bad, numberField, decimalFrom, hexField, FieldKind, number, name, right, hex, fieldOf, Values, values, unread, andThen, readFields, at}
 
 low-same : (k : FieldKind) (f : List ℕ) (n : ℕ) → fieldOf k f ≡ is n → low k n ≡ n

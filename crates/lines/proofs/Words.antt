@@ -19,7 +19,8 @@ use Rattle.model.specs.Lines.{is, bad, spelt, packed, Form, forms, sameBytes, m
 use Rattle.fields.specs.Fields.{firstField, wordField}
 use Rattle.fields.proofs.Readings.{Bytes}
 use Rattle.fields.proofs.Spelling.{spelt-is}
-use Rattle.lines.specs.Tables.{callNames, placeOf}
+use Rattle.forms.specs.Tables.{callNames}
+use Rattle.lines.specs.Made.{placeOf}
 
 -- two names of bytes that are the same number are the same name
 tail-bytes : (b : ℕ) (f : List ℕ) → Bytes (b ∷ f) → Bytes f

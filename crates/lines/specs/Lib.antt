@@ -1,3 +1,3 @@
 -- What the reader's functions compute, in the terms of the model's `readLine`.
 pub mod Fields
-pub mod Tables
+pub mod Made

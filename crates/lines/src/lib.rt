@@ -7,7 +7,8 @@ ghost use Rattle.lists.specs.Bytes.{over};
 ghost use Rattle.model.specs.declared.Request.{Request};
 ghost use Rattle.model.specs.Lines.{fields, readFields, makeBy, rightOf, readLine, dataOf, calls, formAt};
 ghost use Rattle.lines.specs.Fields.{following, DataAt};
-ghost use Rattle.lines.specs.Tables.{shapeOf, callNames, placeOf, askedBy, madeBy};
+ghost use Rattle.forms.specs.Tables.{shapeOf, callNames};
+ghost use Rattle.lines.specs.Made.{placeOf, askedBy, madeBy};
 use fields::Field;
 use model::Call;
 use model::Caller;
@@ -16,68 +17,13 @@ use model::Request;
 use model::Right;
 use model::Settings;
 
-// How many names a line may begin with.
-const CALLS: usize = 16;
-
-// The most fields that follow a name.
-const MOST_FIELDS: usize = 6;
-
-// The calls' names, each as one number: a 1 and its letters, so that the number tells how many there are.
-fn call_names() -> [u64; CALLS]
-    ensures { λ r. ⌜ r ≡ callNames ⌝ }
-{
-    [
-        0x14652414d4553, // FRAMES
-        0x1454e524f4c, // ENROL
-        0x1435245415445, // CREATE
-        0x144455354524f59, // DESTROY
-        0x15045524d4954, // PERMIT
-        0x149534f4c415445, // ISOLATE
-        0x15155455259, // QUERY
-        0x1414444, // ADD
-        0x152454d4f5645, // REMOVE
-        0x14c4f4144, // LOAD
-        0x14d4f4445, // MODE
-        0x14645544348, // FETCH
-        0x153544f5245, // STORE
-        0x15245534554, // RESET
-        0x14b4559, // KEY
-        0x1424c4f434b, // BLOCK
-    ]
-}
-
-// The kinds of a call's fields, three bits a field, the first lowest: 1 a number, 2 a name, 3 a right, 4 data, which come last.
-fn call_shape(place: usize) -> u64
-    ensures { λ r. ⌜ r ≡ shapeOf (formAt place .kinds) ⌝ }
-{
-    match place {
-        0 => 0o1,
-        1 => 0o111111,
-        2 => 0o121,
-        3 => 0o11,
-        4 => 0o3111,
-        5 => 0o11,
-        6 => 0o211,
-        7 => 0o311,
-        8 => 0o11,
-        9 => 0o111,
-        10 => 0o11,
-        11 => 0o1111,
-        12 => 0o4111,
-        13 => 0o1,
-        14 => 0o11,
-        15 => 0o11111,
-        _ => 0,
-    }
-}
-
 // The number of the call that a name names, or how many there are. The compiler makes a few comparisons of the search.
 fn call_place(word: u64) -> usize
     ensures { λ r. ⌜ r ≡ placeOf word ⌝ }
 {
-    let names = call_names();
+    let names = forms::call_names();
     let mut i: usize = 0;
-    while i < CALLS {
+    while i < forms::CALLS {
         if names[i] == word {
             return i;
         }
@@ -110,7 +56,7 @@ fn asked(guest: u32, operation: Operation, length: u32) -> Request
 }
 
 // Only the lower 32 bits of a number are taken: a number that was read has no others. Names and rights are taken whole.
-fn make(place: usize, v: [u64; MOST_FIELDS]) -> Request
+fn make(place: usize, v: [u64; forms::MOST_FIELDS]) -> Request
     ensures { λ r. ⌜ r ≡ madeBy place v ⌝ }
 {
     let second = v[1];
@@ -229,7 +175,7 @@ fn not_read() -> Outcome
     }
 }
 
-fn parsed(place: usize, values: [u64; MOST_FIELDS], data_at: usize) -> Outcome
+fn parsed(place: usize, values: [u64; forms::MOST_FIELDS], data_at: usize) -> Outcome
     ensures { λ r. ⌜ (r .request ≡ madeBy place values) × (r .data_at ≡ data_at) ⌝ }
 {
     Outcome {
@@ -243,7 +189,7 @@ fn arguments(line: &[u8], place: usize, shape: u64, first: usize) -> Outcome
     requires { ⌜ (place < calls) × (shape ≡ shapeOf (formAt place .kinds)) × (first ≤ length (now line)) ⌝ }
     ensures { λ r. ⌜ (r .request ≡ makeBy (formAt place .make) (readFields (formAt place .kinds) (following (drop first (now (line .entry)))))) × DataAt (following (drop first (now (line .entry)))) (now (line .entry)) (r .request) (r .data_at) ⌝ }
 {
-    let mut values = [0u64; MOST_FIELDS];
+    let mut values = [0u64; forms::MOST_FIELDS];
     let mut kinds = shape;
     let mut end = first;
     let mut k: usize = 0;
@@ -292,10 +238,10 @@ fn read(line: &[u8]) -> Outcome
         return not_read();
     };
     let place = call_place(word);
-    if CALLS <= place {
+    if forms::CALLS <= place {
         return not_read();
     }
-    arguments(line, place, call_shape(place), first)
+    arguments(line, place, forms::call_shape(place), first)
 }
 
 // One line, without its newline: what it asks for, and the data of a store over the first bytes of `bytes`.

@@ -7,7 +7,7 @@ use lib.ListN.{getD}
 use Rattle.lists.specs.Places.{lowestFrom}
 use Rattle.lists.proofs.Rules.{loops}
 use Rattle.model.specs.Lines.{forms, calls}
-use Rattle.lines.specs.Tables.{placeOf}
+use Rattle.lines.specs.Made.{placeOf}
 use Rattle.lines.proofs.Tables.{place-from}
 use borrow.Author.Needs.{needs}
 use Rattle.lines.proofs.call_place.Statement.{statement}

@@ -2,8 +2,9 @@
 use native.Mathlib.Omega.{arith}
 use mathlib.Core.Path.{refl}
 use Rattle.model.specs.Lines.{forms}
-use Rattle.lines.specs.Tables.{low, lowered, madeBy}
-use Rattle.lines.proofs.Tables.{made, NoneBelow, made-none}
+use Rattle.lines.specs.Made.{low, lowered, madeBy}
+use Rattle.forms.proofs.Tables.{NoneBelow}
+use Rattle.lines.proofs.Tables.{made, made-none}
 use borrow.Author.Needs.{needs}
 use Rattle.lines.proofs.make.Statement.{statement}
 use Rattle.lines.proofs.make.Tie as tie

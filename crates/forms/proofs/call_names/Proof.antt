@@ -1,9 +1,9 @@
--- `lines::call_names` meets its contract.
+-- `forms::call_names` meets its contract.
 use Rattle.model.specs.Lines.{forms, packedName, packed}
-use Rattle.lines.specs.Tables.{callNames}
+use Rattle.forms.specs.Tables.{callNames}
 use borrow.Author.Needs.{needs}
-use Rattle.lines.proofs.call_names.Statement.{statement}
-use Rattle.lines.proofs.call_names.Tie as tie
+use Rattle.forms.proofs.call_names.Statement.{statement}
+use Rattle.forms.proofs.call_names.Tie as tie
 
 returns : tie.Need-returns
 unfolding callNames forms packedName packed

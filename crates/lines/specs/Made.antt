@@ -1,23 +1,14 @@
--- The reader's tables, which are the model's `forms` in numbers, and the request that values make.
-use Prim.Native.Nat.{ℕ, _+_, _*_, _%_}
-use mathlib.Core.List.{List, [], _∷_, map}
+-- Which call a name names, and the request that values make.
+use Prim.Native.Nat.{ℕ, _+_, _%_}
+use mathlib.Core.List.{List, [], _∷_}
 use lib.Dec.{eqb}
 use lib.ListN.{getD}
 use Rattle.lists.specs.Places.{lowest}
 use Rattle.model.specs.declared.Operation.{Operation}
 use Rattle.model.specs.declared.Request.{Request}
 use Rattle.model.specs.declared.Request.the-variants.{Call}
-use Rattle.model.specs.Lines.{forms, calls, formAt, FieldKind, number, name, right, hex, packed, at}
-use Rattle.fields.specs.Fields.{kindNumber}
-
--- the kinds of a call's fields as octal digits, the first the lowest
-unfoldable pub shapeOf : List FieldKind → ℕ
-shapeOf [] = 0
-shapeOf (k ∷ ks) = kindNumber k + 8 * shapeOf ks
-
--- the calls' names, each as one number, as `wordField` packs it
-unfoldable pub callNames : List ℕ
-callNames = map (λ f. packed 1 (f .word)) forms
+use Rattle.model.specs.Lines.{calls, formAt, FieldKind, number, name, right, hex, at}
+use Rattle.forms.specs.Tables.{callNames}
 
 -- the number of the call that such a number names, or how many calls there are
 abbrev pub placeOf : ℕ → ℕ

@@ -1,12 +1,12 @@
--- `lines::call_shape` meets its contract.: at each number of a call, the kinds of the form of that number.
+-- `forms::call_shape` meets its contract.: at each number of a call, the kinds of the form of that number.
 use native.Mathlib.Omega.{arith}
 use mathlib.Core.Path.{refl}
 use Rattle.model.specs.Lines.{forms}
 use Rattle.fields.specs.Fields.{kindNumber}
-use Rattle.lines.specs.Tables.{shapeOf}
-use Rattle.lines.proofs.Tables.{shaped, NoneBelow, shaped-none}
-use Rattle.lines.proofs.call_shape.Statement.{statement}
-use Rattle.lines.proofs.call_shape.Tie as tie
+use Rattle.forms.specs.Tables.{shapeOf}
+use Rattle.forms.proofs.Tables.{shaped, NoneBelow, shaped-none}
+use Rattle.forms.proofs.call_shape.Statement.{statement}
+use Rattle.forms.proofs.call_shape.Tie as tie
 
 returns : tie.Need-returns
 returns c = shaped _ 0 _ (omega arith) (unfold forms shapeOf kindNumber in refl)

@@ -1,0 +1,4 @@
+-- Laws of the tables, and of the forms that they hold.
+pub mod Tables
+pub mod Storing
+pub mod Sizes

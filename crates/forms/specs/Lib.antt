@@ -1,0 +1,2 @@
+-- The tables that the reader and the writer of a line share.
+pub mod Tables
