@@ -18,18 +18,7 @@ use Rattle.model.specs.Parts.{partsOf}
 use Rattle.model.specs.Written.{unpadded, rightText, fieldText, fieldTexts, tabbed, written, takesField, takesFields, takes}
 use Rattle.digits.proofs.Decimals.{decimal-short}
 use Rattle.digits.proofs.Hexes.{hex-length}
-
--- the most bytes that a field of its kind has: numbers are written in 20 digits at most, whatever they are
-unfoldable pub mostOf : FieldKind → ℕ
-mostOf number = 20
-mostOf name = 8
-mostOf right = 1
-mostOf hex = 514
-
--- and fields, with a tab before each
-unfoldable pub mostIn : List FieldKind → ℕ
-mostIn [] = 0
-mostIn (k ∷ ks) = 1 + mostOf k + mostIn ks
+use Rattle.forms.specs.Sizes.{mostOf, mostIn}
 
 unpadded-short : (l : List ℕ) → length (unpadded l) ≤ length l
 unfolding unpadded

@@ -1,18 +1,19 @@
 -- The tables say what the model's forms say. Assumes nothing.
 use Prim.Native.Nat.{ℕ, zero, suc, _/_, _%_, _≤_, _<_}
 use mathlib.Core.Bool.{Bool, true}
-use mathlib.Core.List.{List, _∷_}
-use mathlib.Core.Path.{_≡_, sym, ap}
+use mathlib.Core.List.{List, [], _∷_}
+use mathlib.Core.Path.{_≡_, refl, sym, ap, _∙_}
 use native.Mathlib.Omega.{arith}
 use lib.Dec.{leb}
 use lib.ListN.{length, getD, List·getD-eq-default}
 use borrow.Author.Tests.{leb-true}
+use Rattle.lists.specs.Choice.{choose}
 use Rattle.lists.specs.Places.{every}
 use Rattle.lists.proofs.Places.{every-at}
-use Rattle.fields.specs.Fields.{kindNumber}
+use Rattle.fields.specs.Fields.{kindNumber, shortKind}
 use Rattle.fields.proofs.KindNumbers.{kind-small}
-use Rattle.forms.specs.Tables.{shapeOf}
-use Rattle.model.specs.Lines.{FieldKind, forms, calls, noForm, formAt}
+use Rattle.forms.specs.Tables.{shapeOf, kindOf}
+use Rattle.model.specs.Lines.{FieldKind, number, name, right, hex, forms, calls, noForm, formAt}
 
 -- shapes
 pub shape-none : (k : FieldKind) (ks : List FieldKind) → shapeOf (k ∷ ks) ≡ 0 → ⊥
@@ -26,6 +27,29 @@ shape-first k ks = omega arith
 pub shape-rest : (k : FieldKind) (ks : List FieldKind) → shapeOf (k ∷ ks) / 8 ≡ shapeOf ks
 unfolding shapeOf
 shape-rest k ks = omega (arith, kind-small k)
+
+-- what a shape tells of the kinds that are left
+pub data Kinds (shape : ℕ) : List FieldKind → Type 0 where
+  none : shape ≡ 0 → Kinds shape []
+  more : (k : FieldKind) (ks : List FieldKind) → (shape ≡ 0 → ⊥) → kindOf (shape % 8) ≡ k → shape / 8 ≡ shapeOf ks → Kinds shape (k ∷ ks)
+
+kind-back : (k : FieldKind) → kindOf (kindNumber k) ≡ k
+unfolding kindOf kindNumber shortKind choose
+kind-back number = refl
+kind-back name = refl
+kind-back right = refl
+kind-back hex = refl
+
+shape-kind : (k : FieldKind) (ks : List FieldKind) → shapeOf (k ∷ ks) % 8 ≡ kindNumber k
+unfolding shapeOf
+shape-kind k ks = omega (arith, kind-small k)
+
+pub kinds-of : (shape : ℕ) (ks : List FieldKind) → shape ≡ shapeOf ks → Kinds shape ks
+unfolding shapeOf
+kinds-of shape [] e = none e
+kinds-of shape (k ∷ ks) e =
+    more k ks (λ z. shape-none k ks (sym e ∙ z)) (ap (λ n. kindOf (n % 8)) e ∙ ap kindOf (shape-kind k ks) ∙ kind-back k)
+    (ap (λ n. n / 8) e ∙ shape-rest k ks)
 
 -- by the call's number
 pub shaped : (p n r : ℕ) → p ≡ n → r ≡ shapeOf (formAt n .kinds) → r ≡ shapeOf (formAt p .kinds)

@@ -1,0 +1,2 @@
+-- The names of calls as numbers.
+pub mod Words

@@ -1,0 +1,2 @@
+-- A request taken apart, as the code holds it.
+pub mod Apart
