@@ -26,7 +26,7 @@ use Rattle.lines.specs.Made.{placeOf}
 tail-bytes : (b : ℕ) (f : List ℕ) → Bytes (b ∷ f) → Bytes f
 tail-bytes b f k = record { byte = λ i. k .byte (suc i) }
 
-packed-same : (a b : ℕ) (f g : List ℕ) → length f ≡ length g → Bytes f → Bytes g → packed a f ≡ packed b g → (a ≡ b) × (f ≡ g)
+pub packed-same : (a b : ℕ) (f g : List ℕ) → length f ≡ length g → Bytes f → Bytes g → packed a f ≡ packed b g → (a ≡ b) × (f ≡ g)
 unfolding packed
 packed-same a b [] [] l k m e = (e, refl)
 packed-same a b [] (y ∷ g) l k m e = absurd (omega arith)
@@ -112,7 +112,7 @@ word-at i h =
       number = eqb-true (getD callNames i 0) (packed 1 w) (both-right (both (leb (length w) 7) (allBytes w)) _ t);
     }
 
-same-bytes : (f g : List ℕ) → sameBytes f g ≡ true → f ≡ g
+pub same-bytes : (f g : List ℕ) → sameBytes f g ≡ true → f ≡ g
 unfolding sameBytes
 same-bytes [] [] e = refl
 same-bytes [] (b ∷ g) e = true-false e refl

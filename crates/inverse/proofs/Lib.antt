@@ -1,0 +1,4 @@
+pub mod Throughout
+pub mod Numbers
+pub mod Hexes
+pub mod Names
