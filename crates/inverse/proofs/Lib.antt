@@ -2,3 +2,5 @@ pub mod Throughout
 pub mod Numbers
 pub mod Hexes
 pub mod Names
+pub mod Cutting
+pub mod FieldTexts

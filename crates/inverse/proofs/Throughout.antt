@@ -1,7 +1,10 @@
 -- What holds of each element of a list, by the list's parts. Assumes nothing.
 use Prim.Native.Nat.{ℕ, zero, suc, _<_}
 use mathlib.Core.List.{List, [], _∷_, _++_}
+use mathlib.Core.Bool.{false}
+use mathlib.Core.Path.{_≡_}
 use native.Mathlib.Omega.{arith}
+use lib.Dec.{eqb}
 use lib.ListN.{length, getD}
 
 abbrev pub Throughout : (ℕ → Type 0) → List ℕ → Type 0
@@ -9,6 +12,9 @@ Throughout P l = (i : ℕ) → i < length l → P (getD l i 0)
 
 abbrev pub IsByte : ℕ → Type 0
 IsByte b = b < 256
+
+abbrev pub NotNewline : ℕ → Type 0
+NotNewline b = eqb b 10 ≡ false
 
 module _ (P : ℕ → Type 0) where
   pub all-none : Throughout P []
