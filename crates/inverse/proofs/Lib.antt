@@ -4,3 +4,6 @@ pub mod Hexes
 pub mod Names
 pub mod Cutting
 pub mod FieldTexts
+pub mod Readings
+pub mod WrittenFields
+pub mod FormLaws
