@@ -93,13 +93,18 @@ right-reads zero h = refl
 right-reads (suc zero) h = refl
 right-reads (suc (suc v)) h = absurd (omega arith)
 
+pub take-bytes : (v : ℕ) (d : List ℕ) → AllBytes d → AllBytes (take v d)
+take-bytes v d k i h =
+    let n : i < v = omega (arith, length-take v d) in
+    rw (getD-take v d i 0 n) (k i (omega (arith, length-take v d)))
+
 hex-reads : (v : ℕ) (d : List ℕ) → AllBytes d → takesField hex v d ≡ true → fieldOf hex (hexText (take v d)) ≡ is v
 unfolding takesField fieldOf
 hex-reads v d k y =
     let m = leb-true v 257 (both-left _ _ y) in
     let n = leb-true v (length d) (both-right (leb v 257) _ y) in
     let e : length (take v d) ≡ v = omega (arith, length-take v d) in
-    field-read (take v d) (λ i h. rw (getD-take v d i 0 (omega arith)) (k i (omega arith))) (omega arith) ∙ ap is e
+    field-read (take v d) (take-bytes v d k) (omega arith) ∙ ap is e
 
 pub text-reads : (k : FieldKind) (v : ℕ) (d : List ℕ) → AllBytes d → Narrowed k v → takesField k v d ≡ true → fieldOf k (fieldText k v d) ≡ is v
 unfolding fieldText takesField fieldOf

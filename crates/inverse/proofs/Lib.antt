@@ -7,3 +7,10 @@ pub mod FieldTexts
 pub mod Readings
 pub mod WrittenFields
 pub mod FormLaws
+pub mod Requests
+pub mod OneLine
+pub mod ReadsBack
+pub mod LineRead
+pub mod WritesBack
+pub mod Refused
+pub mod GoodLines

@@ -1,6 +1,6 @@
 -- The texts of all fields of a request that the writer takes: they can stand in a line, they are short, and they are read as the
 -- values. Assumes nothing.
-use Prim.Native.Nat.{ℕ, suc, _+_, _≤_}
+use Prim.Native.Nat.{ℕ, zero, suc, _+_, _≤_, _<_}
 use mathlib.Core.Bool.{Bool, true, false}
 use mathlib.Core.List.{List, [], _∷_, _++_}
 use mathlib.Core.Path.{_≡_, refl}
@@ -22,6 +22,14 @@ unfolding takesFields fieldTexts
 texts-one [] vs d y = none
 texts-one (k ∷ ks) [] d y = none
 texts-one (k ∷ ks) (v ∷ vs) d y = and (text-one k v d (both-left _ _ y)) (texts-one ks vs d (both-right (takesField k v d) _ y))
+
+-- the text at each place
+pub text-at : (ks : List FieldKind) (vs d : List ℕ) (i : ℕ) → takesFields ks vs d ≡ true → i < length ks → getD (fieldTexts ks vs d) i [] ≡ fieldText (getD ks i name) (at vs i) d
+unfolding takesFields fieldTexts
+text-at [] vs d i y h = absurd (omega arith)
+text-at (k ∷ ks) [] d i y h = true-false y refl
+text-at (k ∷ ks) (v ∷ vs) d zero y h = refl
+text-at (k ∷ ks) (v ∷ vs) d (suc i) y h = text-at ks vs d i (both-right (takesField k v d) _ y) (omega arith)
 
 -- the most bytes of all fields, with the tabs before them
 unfoldable pub mostIn : List FieldKind → ℕ
