@@ -69,7 +69,7 @@ joined-line w [] y none = rw append-nil (one-line w y)
 joined-line w (t ∷ ts) y (and o m) = all-append NotNewline w (9 ∷ (t ++ tabbed ts)) (one-line w y) (all-cons NotNewline 9 (t ++ tabbed ts) refl (joined-line t ts o m))
 
 -- cut, then joined
-pub joined : List (List ℕ) → List ℕ
+unfoldable pub joined : List (List ℕ) → List ℕ
 joined [] = []
 joined (w ∷ ts) = w ++ tabbed ts
 
