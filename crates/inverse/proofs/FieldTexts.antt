@@ -1,4 +1,4 @@
--- A field's text, by its kind: it can stand in a line, it is short, it spells its value; and a value that a field spells has that
+-- A field's text, by its kind: it can stand in a line, and it spells its value; and a value that a field spells has that
 -- field for its text. Assumes nothing.
 use Prim.Native.Nat.{ℕ, zero, suc, _+_, _-_, _*_, _/_, _%_, _≤_, _<_}
 use mathlib.Core.Bool.{Bool, true, false}
@@ -17,13 +17,11 @@ use Rattle.model.specs.Names.{nameBytes}
 use Rattle.model.specs.Rewritten.{AllBytes}
 use Rattle.model.specs.Session.{decimalBy, decimal, hexLetter, hexText}
 use Rattle.model.specs.Written.{rightText, nameText, oneField, fieldText, takesField}
-use Rattle.digits.proofs.Decimals.{decimal-short}
-use Rattle.digits.proofs.Hexes.{hex-length}
 use Rattle.digits.proofs.ReadsBack.{number-read, field-read}
 use Rattle.inverse.proofs.Throughout.{Throughout, IsByte, all-none, all-cons, all-append, all-head, all-tail}
 use Rattle.inverse.proofs.Cutting.{One, one-cons, Fine}
 use Rattle.inverse.proofs.Numbers.{number-back}
-use Rattle.inverse.proofs.Names.{name-back, name-reads, unpadded-short}
+use Rattle.inverse.proofs.Names.{name-back, name-reads}
 use Rattle.inverse.proofs.Hexes.{hex-back}
 
 -- digits and letters lie above tab and newline, also those of numbers past their limits
@@ -65,20 +63,6 @@ text-one number v d y = high-one (decimal v) (decimal-high 20 v)
 text-one name v d y = both-right _ _ y
 text-one right v d y = right-one v
 text-one hex v d y = high-one (hexText (take v d)) (hex-high (take v d))
-
--- the most bytes of a field's text
-abbrev pub mostOf : FieldKind → ℕ
-mostOf number = 20
-mostOf name = 8
-mostOf right = 1
-mostOf hex = 514
-
-pub text-short : (k : FieldKind) (v : ℕ) (d : List ℕ) → takesField k v d ≡ true → length (fieldText k v d) ≤ mostOf k
-unfolding fieldText takesField rightText nameBytes
-text-short number v d y = decimal-short v
-text-short name v d y = unpadded-short (nameBytes v)
-text-short right v d y = choose-elim (λ t. length t ≤ 1) (eqb v 0) (bytes "R") (bytes "W") (λ _. omega arith) (λ _. omega arith)
-text-short hex v d y = omega (arith, hex-length (take v d), length-take v d, leb-true v 257 (both-left _ _ y))
 
 -- The values of 32 bits and of rights
 abbrev pub Narrowed : FieldKind → ℕ → Type 0

@@ -5,7 +5,6 @@ use mathlib.Core.Bool.{Bool, true, false}
 use mathlib.Core.List.{List, [], _∷_}
 use mathlib.Core.Path.{_≡_, refl, sym, ap, _∙_}
 use native.Mathlib.Omega.{arith}
-use lib.Dec.{leb}
 use lib.ListN.{length, getD}
 use Rattle.lists.specs.Choice.{choose, both, either}
 use Rattle.lists.proofs.Choice.{yes!, no! }
@@ -17,7 +16,6 @@ use Rattle.model.specs.Written.{oneField}
 use Rattle.lines.proofs.Words.{same-bytes}
 use Rattle.inverse.proofs.Cutting.{One}
 use Rattle.inverse.proofs.Readings.{kept}
-use Rattle.inverse.proofs.WrittenFields.{mostIn}
 
 -- its name picks the form
 abbrev Picked : Form → Type 0
@@ -31,19 +29,14 @@ Parted p f = (vs : List ℕ) → partsOf (f .make vs) ≡ record { form = p; val
 abbrev Formed : Form → Type 0
 Formed f = (vs : List ℕ) → canonical (f .make vs) ≡ f .make vs
 
--- the longest line of the form can be read
-abbrev Short : Form → Type 0
-Short f = leb (length (f .word) + mostIn (f .kinds)) 600 ≡ true
-
 pub record Lawful (p : ℕ) (f : Form) : Type 0 where
   pub picked : Picked f
   pub parts : Parted p f
   pub its-form : Formed f
   pub word-one : One (f .word)
-  pub short : Short f
 
-law : {p : ℕ} {f : Form} → Picked f → Parted p f → Formed f → One (f .word) → Short f → Lawful p f
-law a b c d e = record { picked = a; parts = b; its-form = c; word-one = d; short = e }
+law : {p : ℕ} {f : Form} → Picked f → Parted p f → Formed f → One (f .word) → Lawful p f
+law a b c d = record { picked = a; parts = b; its-form = c; word-one = d }
 
 -- all forms from number p on
 data From : ℕ → List Form → Type 0 where
@@ -51,7 +44,7 @@ data From : ℕ → List Form → Type 0 where
   and : {p : ℕ} {f : Form} {fs : List Form} → Lawful p f → From (p + 1) fs → From p (f ∷ fs)
 
 each : From 0 forms
-unfolding forms readBy sameBytes both either choose makeBy partsOf callParts kept canonical oneField mostIn
+unfolding forms readBy sameBytes both either choose makeBy partsOf callParts kept canonical oneField
 each = search (none, and, law) depth 40
 
 law-from : (p : ℕ) (fs : List Form) → From p fs → (i : ℕ) → i < length fs → Lawful (p + i) (getD fs i noForm)

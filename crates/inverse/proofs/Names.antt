@@ -10,12 +10,14 @@ use lib.ListN.{length, getD, drop, replicate, length-append, length-replicate}
 use borrow.Author.Tests.{leb-true, eqb-true, le-leb}
 use Rattle.lists.specs.Choice.{both, choose}
 use Rattle.lists.proofs.Choice.{true-false, both-left, both-right, both-intro, both-no, not-to, choose-elim, yes!, no! }
-use Rattle.model.specs.Lines.{is, spelt, noBlank, packed, packedName, nameField}
+use Rattle.model.specs.Lines.{is, name, spelt, noBlank, packed, packedName, nameField}
 use Rattle.model.specs.Names.{blank, blanks, nameBytes}
 use Rattle.model.specs.Rewritten.{AllBytes}
-use Rattle.model.specs.Written.{unpadded, nameText, oneField, takesName}
+use Rattle.model.specs.Written.{unpadded, nameText, oneField, takesName, fieldText, takesField}
 use Rattle.fields.proofs.Readings.{Bytes}
 use Rattle.fields.proofs.Spelling.{spelt-is}
+use Rattle.forms.specs.Sizes.{mostOf}
+use Rattle.forms.proofs.Sizes.{field-short}
 use Rattle.lines.proofs.Words.{packed-same}
 use Rattle.inverse.proofs.Throughout.{IsByte, all-append, all-cons, all-none, all-head, all-tail}
 
@@ -33,11 +35,6 @@ padded-back (b ∷ l) = go (blanks (b ∷ l)) refl (padded-back l)
     go : (t : Bool) → blanks (b ∷ l) ≡ t → unpadded l ++ replicate (length l - length (unpadded l)) 32 ≡ l → unpadded (b ∷ l) ++ replicate (length (b ∷ l) - length (unpadded (b ∷ l))) 32 ≡ b ∷ l
     go true y i = let e : unpadded (b ∷ l) ≡ [] = yes! _ _ y in rw (e, sub-zero) (sym (blanks-are (b ∷ l) y))
     go false y i = let e : unpadded (b ∷ l) ≡ b ∷ unpadded l = no! _ _ y in rw (e, suc-sub-suc) (ap (λ x. b ∷ x) i)
-
-pub unpadded-short : (l : List ℕ) → length (unpadded l) ≤ length l
-unfolding unpadded
-unpadded-short [] = omega arith
-unpadded-short (b ∷ l) = choose-elim (λ x. length x ≤ suc (length l)) (blanks (b ∷ l)) [] (b ∷ unpadded l) (λ _. omega arith) (λ _. omega (arith, unpadded-short l))
 
 are-blank : (n : ℕ) → blanks (replicate n 32) ≡ true
 unfolding blanks
@@ -135,8 +132,8 @@ name-back f n k e =
 
 -- a name that the writer takes is read
 pub name-reads : (n : ℕ) → takesName n ≡ true → nameField (nameText n) ≡ is n
-unfolding nameField nameBytes
+unfolding nameField fieldText takesField mostOf
 name-reads n y =
     let t = both-left (both (leb 1 (length (nameText n))) (noBlank (nameText n))) (oneField (nameText n)) y in
-    let l = le-leb (length (nameText n)) 8 (omega (arith, unpadded-short (nameBytes n))) in
+    let l = le-leb (length (nameText n)) 8 (field-short name n [] y) in
     spelt-as _ _ n (both-intro _ _ (both-intro _ _ (both-left _ _ t) l) (both-right _ _ t)) (name-packed n)

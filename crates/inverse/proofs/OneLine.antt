@@ -1,21 +1,22 @@
 -- What the writer writes is one line that the reader cuts into its fields. Assumes nothing.
-use Prim.Native.Nat.{ℕ, _+_, _≤_, _<_}
+use Prim.Native.Nat.{ℕ, _≤_, _<_}
 use mathlib.Core.Bool.{true}
 use mathlib.Core.List.{List, _∷_, _++_}
 use mathlib.Core.Path.{_≡_}
 use native.Mathlib.Omega.{arith}
-use lib.Dec.{leb, ltb}
-use lib.ListN.{length, length-append}
-use borrow.Author.Tests.{leb-true, ltb-true}
+use lib.Dec.{ltb}
+use lib.ListN.{length}
+use borrow.Author.Tests.{ltb-true}
 use Rattle.lists.proofs.Choice.{both-left, both-right}
 use Rattle.model.specs.declared.Request.{Request}
 use Rattle.model.specs.Lines.{fields, calls, formAt}
 use Rattle.model.specs.Parts.{partsOf, formOf}
 use Rattle.model.specs.Rewritten.{NoNewline, WrittenLine}
-use Rattle.model.specs.Written.{fieldTexts, tabbed, written, takesFields, takes}
+use Rattle.model.specs.Written.{fieldTexts, written, takesFields, takes}
+use Rattle.forms.proofs.Sizes.{line-short}
 use Rattle.inverse.proofs.Cutting.{Each, One, joined-cut, joined-line}
 use Rattle.inverse.proofs.FormLaws.{Lawful, law-at}
-use Rattle.inverse.proofs.WrittenFields.{texts-one, texts-short, mostIn}
+use Rattle.inverse.proofs.WrittenFields.{texts-one}
 
 module _ (q : Request) (d : List ℕ) where
   abbrev pub texts : List (List ℕ)
@@ -45,13 +46,7 @@ module _ (q : Request) (d : List ℕ) where
     written-one = joined-line (formOf q .word) texts (taken-law .word-one) texts-can
 
     pub written-short : length (written q d) ≤ 600
-    unfolding written
-    written-short = omega (
-      arith,
-      length-append (formOf q .word) (tabbed texts),
-      texts-short (formOf q .kinds) (partsOf q .values) d taken-fields,
-      leb-true (length (formOf q .word) + mostIn (formOf q .kinds)) 600 (taken-law .short),
-    )
+    written-short = omega (arith, line-short q d y)
 
 -- a written line is one line, and of at most 600 bytes
 pub written-line : WrittenLine

@@ -10,7 +10,7 @@ use Rattle.lists.proofs.Choice.{both-left, both-right, both-intro, true-false}
 use Rattle.model.specs.Lines.{Spelt, is, hexBytes, FieldKind, number, name, right, hex, fieldOf, values, readFields, andThen, at, rightOf}
 use Rattle.model.specs.Parts.{rightNumber}
 use Rattle.model.specs.Written.{fieldText, fieldTexts, takesField, takesFields}
-use Rattle.lines.proofs.Storing.{noData, storeKinds}
+use Rattle.forms.proofs.Storing.{noData, storeKinds}
 use Rattle.lines.proofs.Values.{first-of, none-of}
 use Rattle.inverse.proofs.Cutting.{Each, none, and, Fine}
 use Rattle.inverse.proofs.FieldTexts.{Holds, right-back, text-back}

@@ -17,7 +17,7 @@ use Rattle.model.specs.Rewritten.{Narrow, AllBytes, ReadsBack}
 use Rattle.model.specs.Session.{hexText}
 use Rattle.model.specs.Written.{fieldText, fieldTexts, takesFields, written, takes}
 use Rattle.digits.proofs.ReadsBack.{hex-read}
-use Rattle.lines.proofs.Storing.{Storing, never, last, storing-at}
+use Rattle.forms.proofs.Storing.{Storing, never, last, storing-at}
 use Rattle.inverse.proofs.FieldTexts.{take-bytes}
 use Rattle.inverse.proofs.FormLaws.{Lawful}
 use Rattle.inverse.proofs.OneLine.{texts, taken-form, taken-fields, taken-law, written-cut, written-short}

@@ -13,7 +13,7 @@ use Rattle.model.specs.Lines.{fields, calls, formAt, values, readFields, readLi
 use Rattle.model.specs.Parts.{Parts, partsOf}
 use Rattle.model.specs.Rewritten.{AllBytes, NoNewline, WritesBack}
 use Rattle.model.specs.Written.{fieldTexts, tabbed, written, takesFields, takes}
-use Rattle.lines.proofs.Storing.{Storing, never, last, storeKinds, storing-at}
+use Rattle.forms.proofs.Storing.{Storing, never, last, storeKinds, storing-at}
 use Rattle.inverse.proofs.Cutting.{Each, none, and, Fine, joined, cut-joined, fine-fields}
 use Rattle.inverse.proofs.FormLaws.{law-at}
 use Rattle.inverse.proofs.LineRead.{LineRead, unasked, asked, line-read}

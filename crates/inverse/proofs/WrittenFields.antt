@@ -1,4 +1,4 @@
--- The texts of all fields of a request that the writer takes: they can stand in a line, they are short, and they are read as the
+-- The texts of all fields of a request that the writer takes: they can stand in a line, and they are read as the
 -- values. Assumes nothing.
 use Prim.Native.Nat.{ℕ, zero, suc, _+_, _≤_, _<_}
 use mathlib.Core.Bool.{Bool, true, false}
@@ -14,7 +14,7 @@ use Rattle.model.specs.Lines.{FieldKind, number, name, right, hex, at}
 use Rattle.model.specs.Rewritten.{AllBytes}
 use Rattle.model.specs.Written.{fieldText, fieldTexts, tabbed, takesField, takesFields}
 use Rattle.inverse.proofs.Cutting.{Each, none, and, One}
-use Rattle.inverse.proofs.FieldTexts.{mostOf, Narrowed, text-one, text-short, text-reads}
+use Rattle.inverse.proofs.FieldTexts.{Narrowed, text-one, text-reads}
 use Rattle.inverse.proofs.Readings.{Reads, nothing, one}
 
 pub texts-one : (ks : List FieldKind) (vs d : List ℕ) → takesFields ks vs d ≡ true → Each One (fieldTexts ks vs d)
@@ -30,18 +30,6 @@ text-at [] vs d i y h = absurd (omega arith)
 text-at (k ∷ ks) [] d i y h = true-false y refl
 text-at (k ∷ ks) (v ∷ vs) d zero y h = refl
 text-at (k ∷ ks) (v ∷ vs) d (suc i) y h = text-at ks vs d i (both-right (takesField k v d) _ y) (omega arith)
-
--- the most bytes of all fields, with the tabs before them
-unfoldable pub mostIn : List FieldKind → ℕ
-mostIn [] = 0
-mostIn (k ∷ ks) = 1 + mostOf k + mostIn ks
-
-pub texts-short : (ks : List FieldKind) (vs d : List ℕ) → takesFields ks vs d ≡ true → length (tabbed (fieldTexts ks vs d)) ≤ mostIn ks
-unfolding takesFields fieldTexts tabbed mostIn
-texts-short [] vs d y = omega arith
-texts-short (k ∷ ks) [] d y = omega arith
-texts-short (k ∷ ks) (v ∷ vs) d y =
-    omega (arith, length-append (fieldText k v d) (tabbed (fieldTexts ks vs d)), text-short k v d (both-left _ _ y), texts-short ks vs d (both-right (takesField k v d) _ y))
 
 -- Values in the shape of their kinds: as many, and the rights among them 0 or 1
 unfoldable pub shapedOne : FieldKind → ℕ → Bool
