@@ -7,8 +7,8 @@ use mathlib.Core.Path.{_≡_, refl, sym, ap, ap₂, _∙_}
 use native.Mathlib.Omega.{arith}
 use lib.Dec.{eqb}
 use borrow.Author.Tests.{eqb-true}
-use Rattle.lists.specs.Choice.{both, either, choose}
-use Rattle.lists.proofs.Choice.{both-left, both-right, both-intro, either-none, either-not-left, either-not-right, not-to, not-of, choose-elim, yes!, no! }
+use Rattle.lists.specs.Choice.{either}
+use Rattle.lists.proofs.Choice.{both-left, both-right, both-intro, either-none, either-not-left, either-not-right, not-to, not-of, yes!, no! }
 use Rattle.model.specs.Lines.{fields}
 use Rattle.model.specs.Rewritten.{AllBytes, NoNewline}
 use Rattle.model.specs.Written.{tabbed, oneField}

@@ -1,24 +1,23 @@
 -- A field's text, by its kind: it can stand in a line, and it spells its value; and a value that a field spells has that
 -- field for its text. Assumes nothing.
-use Prim.Native.Nat.{ℕ, zero, suc, _+_, _-_, _*_, _/_, _%_, _≤_, _<_}
+use Prim.Native.Nat.{ℕ, zero, suc, _+_, _/_, _%_, _≤_, _<_}
 use mathlib.Core.Bool.{Bool, true, false}
-use mathlib.Core.List.{List, [], _∷_, _++_}
-use mathlib.Core.Path.{_≡_, refl, sym, ap, ap₂, _∙_}
+use mathlib.Core.List.{List, [], _∷_}
+use mathlib.Core.Path.{_≡_, refl, ap, _∙_}
 use native.Mathlib.Omega.{arith}
 use lib.Dec.{eqb, leb, ltb}
-use lib.ListN.{length, getD, take, length-take}
+use lib.ListN.{length, take, length-take}
 use lib.Seq.{getD-take}
 use borrow.Author.Tests.{leb-true, le-leb, ne-eqb, eqb-true}
 use Rattle.lists.specs.Choice.{both, either, choose}
 use Rattle.lists.specs.Text.{bytes}
-use Rattle.lists.proofs.Choice.{both-left, both-right, both-intro, choose-elim, true-false, yes!, no! }
-use Rattle.model.specs.Lines.{Spelt, is, bad, hexBytes, rightField, FieldKind, number, name, right, hex, fieldOf}
-use Rattle.model.specs.Names.{nameBytes}
+use Rattle.lists.proofs.Choice.{both-left, both-right, both-intro, choose-elim}
+use Rattle.model.specs.Lines.{is, hexBytes, rightField, FieldKind, number, name, right, hex, fieldOf}
 use Rattle.model.specs.Rewritten.{AllBytes}
 use Rattle.model.specs.Session.{decimalBy, decimal, hexLetter, hexText}
-use Rattle.model.specs.Written.{rightText, nameText, oneField, fieldText, takesField}
+use Rattle.model.specs.Written.{rightText, oneField, fieldText, takesField}
 use Rattle.digits.proofs.ReadsBack.{number-read, field-read}
-use Rattle.inverse.proofs.Throughout.{Throughout, IsByte, all-none, all-cons, all-append, all-head, all-tail}
+use Rattle.inverse.proofs.Throughout.{Throughout, all-none, all-cons, all-append, all-head, all-tail}
 use Rattle.inverse.proofs.Cutting.{One, one-cons, Fine}
 use Rattle.inverse.proofs.Numbers.{number-back}
 use Rattle.inverse.proofs.Names.{name-back, name-reads}

@@ -3,7 +3,7 @@
 use Prim.Native.Nat.{ℕ, zero, suc, _+_, _<_}
 use mathlib.Core.Bool.{Bool, true, false}
 use mathlib.Core.List.{List, [], _∷_}
-use mathlib.Core.Path.{_≡_, refl, sym, ap, _∙_}
+use mathlib.Core.Path.{_≡_, refl, ap, _∙_}
 use native.Mathlib.Omega.{arith}
 use lib.ListN.{length, getD}
 use Rattle.lists.specs.Choice.{choose, both, either}
@@ -11,7 +11,7 @@ use Rattle.lists.proofs.Choice.{yes!, no! }
 use Rattle.model.specs.declared.Request.{Request}
 use Rattle.model.specs.declared.Request.the-variants.{NotRead}
 use Rattle.model.specs.Lines.{Form, forms, calls, noForm, formAt, sameBytes, readBy, makeBy, readFields, Values, values, unread}
-use Rattle.model.specs.Parts.{Parts, partsOf, callParts, canonical}
+use Rattle.model.specs.Parts.{partsOf, callParts, canonical}
 use Rattle.model.specs.Written.{oneField}
 use Rattle.lines.proofs.Words.{same-bytes}
 use Rattle.inverse.proofs.Cutting.{One}

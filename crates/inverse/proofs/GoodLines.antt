@@ -1,21 +1,20 @@
 -- The program `rewrite` gives the good lines of its input, as they are, and no others. Assumes nothing.
 use Prim.Native.Nat.{ℕ}
-use mathlib.Core.Bool.{Bool, true, false}
 use mathlib.Core.List.{List, [], _∷_, _++_}
-use mathlib.Core.Path.{_≡_, refl, sym, ap, ap₂, _∙_}
+use mathlib.Core.Path.{_≡_, refl, ap, ap₂, _∙_}
 use native.Mathlib.Omega.{arith}
 use lib.Dec.{eqb}
 use lib.ListN.{length}
-use Rattle.lists.specs.Choice.{both, choose}
+use Rattle.lists.specs.Choice.{both}
 use Rattle.lists.specs.Text.{bytes}
 use Rattle.lists.proofs.Choice.{yes!, no!, choose-elim}
 use Rattle.model.specs.declared.Request.{Request}
 use Rattle.model.specs.declared.Request.the-variants.{Frames, Call, NotRead}
-use Rattle.model.specs.Lines.{forms, readLine, dataOf}
+use Rattle.model.specs.Lines.{forms, readLine}
 use Rattle.model.specs.Parts.{partsOf}
 use Rattle.model.specs.Rewritten.{AllBytes, NoNewline, rewritten, rewrittenLines, rewrittenText, goodLine, goodLines, RewritesGoodLines}
 use Rattle.model.specs.Session.{linesFrom}
-use Rattle.model.specs.Written.{written, takes}
+use Rattle.model.specs.Written.{takes}
 use Rattle.inverse.proofs.Cutting.{Each, none, and}
 use Rattle.inverse.proofs.Throughout.{IsByte, NotNewline, all-none, all-cons, all-head, all-tail, all-append}
 use Rattle.inverse.proofs.WritesBack.{writes-back}

@@ -1,16 +1,16 @@
 -- Bytes that were read from a field of hex pairs are written as that field. Assumes nothing.
-use Prim.Native.Nat.{ℕ, suc, _+_, _-_, _*_, _/_, _%_, _≤_, _<_}
-use mathlib.Core.Bool.{Bool, true, false}
+use Prim.Native.Nat.{ℕ, _+_, _-_, _*_, _/_, _%_, _≤_, _<_}
+use mathlib.Core.Bool.{true}
 use mathlib.Core.List.{List, [], _∷_}
 use mathlib.Core.Logic.{_⊎_, inl, inr}
-use mathlib.Core.Path.{_≡_, refl, sym, ap, ap₂, _∙_}
+use mathlib.Core.Path.{_≡_, refl, ap, ap₂, _∙_}
 use native.Mathlib.Omega.{arith}
 use lib.Dec.{eqb, leb}
 use lib.ListN.{length, take}
 use lib.Seq.{take-all}
 use borrow.Author.Tests.{leb-true, eqb-true, lt-ltb, le-ltb, lt-leb}
 use Rattle.lists.specs.Choice.{both}
-use Rattle.lists.proofs.Choice.{true-false, both-left, both-right, both-not, either-to, true-or-false, yes!, no! }
+use Rattle.lists.proofs.Choice.{both-left, both-right, both-not, either-to, yes!, no! }
 use Rattle.model.specs.Lines.{is, hexDigit, hexValue, hexDigits, hexField, hexBytes}
 use Rattle.model.specs.Names.{digit}
 use Rattle.model.specs.Session.{hexLetter, hexText}

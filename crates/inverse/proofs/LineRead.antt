@@ -7,7 +7,6 @@ use mathlib.Core.Path.{_≡_, refl, sym, ap, _∙_}
 use lib.Dec.{leb}
 use lib.ListN.{length}
 use Rattle.lists.proofs.Choice.{yes!, no! }
-use Rattle.model.specs.declared.Request.{Request}
 use Rattle.model.specs.declared.Request.the-variants.{NotRead}
 use Rattle.model.specs.Lines.{fields, forms, calls, formAt, values, readFields, readBy, readAll, readLine}
 use Rattle.model.specs.Parts.{canonical}

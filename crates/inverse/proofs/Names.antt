@@ -5,11 +5,11 @@ use mathlib.Core.List.{List, [], _∷_, _++_}
 use mathlib.Core.Path.{_≡_, refl, sym, ap, ap₂, _∙_}
 use native.Mathlib.Nat.{sub-zero, suc-sub-suc}
 use native.Mathlib.Omega.{arith}
-use lib.Dec.{eqb, leb}
-use lib.ListN.{length, getD, drop, replicate, length-append, length-replicate}
+use lib.Dec.{leb}
+use lib.ListN.{length, getD, replicate, length-append, length-replicate}
 use borrow.Author.Tests.{leb-true, eqb-true, le-leb}
-use Rattle.lists.specs.Choice.{both, choose}
-use Rattle.lists.proofs.Choice.{true-false, both-left, both-right, both-intro, both-no, not-to, choose-elim, yes!, no! }
+use Rattle.lists.specs.Choice.{both}
+use Rattle.lists.proofs.Choice.{both-left, both-right, both-intro, both-no, not-to, yes!, no! }
 use Rattle.model.specs.Lines.{is, name, spelt, noBlank, packed, packedName, nameField}
 use Rattle.model.specs.Names.{blank, blanks, nameBytes}
 use Rattle.model.specs.Rewritten.{AllBytes}

@@ -1,7 +1,7 @@
 -- What the writer writes is one line that the reader cuts into its fields. Assumes nothing.
 use Prim.Native.Nat.{ℕ, _≤_, _<_}
 use mathlib.Core.Bool.{true}
-use mathlib.Core.List.{List, _∷_, _++_}
+use mathlib.Core.List.{List, _∷_}
 use mathlib.Core.Path.{_≡_}
 use native.Mathlib.Omega.{arith}
 use lib.Dec.{ltb}
@@ -9,7 +9,7 @@ use lib.ListN.{length}
 use borrow.Author.Tests.{ltb-true}
 use Rattle.lists.proofs.Choice.{both-left, both-right}
 use Rattle.model.specs.declared.Request.{Request}
-use Rattle.model.specs.Lines.{fields, calls, formAt}
+use Rattle.model.specs.Lines.{fields, calls}
 use Rattle.model.specs.Parts.{partsOf, formOf}
 use Rattle.model.specs.Rewritten.{NoNewline, WrittenLine}
 use Rattle.model.specs.Written.{fieldTexts, written, takesFields, takes}

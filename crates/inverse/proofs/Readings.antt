@@ -1,18 +1,18 @@
 -- Fields that are read, as a list of readings; what was read of them is written as it was. Assumes nothing.
 use Prim.Native.Nat.{ℕ, zero, suc, _+_, _≤_}
-use mathlib.Core.Bool.{Bool, true, false}
+use mathlib.Core.Bool.{true}
 use mathlib.Core.List.{List, [], _∷_}
-use mathlib.Core.Path.{_≡_, refl, sym, ap, ap₂, _∙_}
+use mathlib.Core.Path.{_≡_, refl, ap, ap₂, _∙_}
 use native.Mathlib.Omega.{arith}
 use lib.ListN.{getD}
 use Rattle.lists.specs.Choice.{choose}
-use Rattle.lists.proofs.Choice.{both-left, both-right, both-intro, true-false}
-use Rattle.model.specs.Lines.{Spelt, is, hexBytes, FieldKind, number, name, right, hex, fieldOf, values, readFields, andThen, at, rightOf}
+use Rattle.lists.proofs.Choice.{both-intro, true-false}
+use Rattle.model.specs.Lines.{is, hexBytes, FieldKind, number, name, right, hex, fieldOf, values, readFields, andThen, at, rightOf}
 use Rattle.model.specs.Parts.{rightNumber}
-use Rattle.model.specs.Written.{fieldText, fieldTexts, takesField, takesFields}
+use Rattle.model.specs.Written.{fieldTexts, takesFields}
 use Rattle.forms.proofs.Storing.{noData, storeKinds}
 use Rattle.lines.proofs.Values.{first-of, none-of}
-use Rattle.inverse.proofs.Cutting.{Each, none, and, Fine}
+use Rattle.inverse.proofs.Cutting.{Each, and, Fine}
 use Rattle.inverse.proofs.FieldTexts.{Holds, right-back, text-back}
 
 pub data Reads : List FieldKind → List (List ℕ) → List ℕ → Type 0 where

@@ -1,25 +1,21 @@
 -- "Reading a written line gives the request back", its data too. Assumes nothing.
 use Prim.Native.Nat.{ℕ}
-use mathlib.Core.Bool.{true, false}
-use mathlib.Core.List.{List, [], _∷_}
+use mathlib.Core.Bool.{true}
+use mathlib.Core.List.{List, []}
 use mathlib.Core.Path.{_≡_, refl, sym, ap, _∙_}
 use native.Mathlib.Omega.{arith}
-use lib.Dec.{leb}
 use lib.ListN.{length, getD, take}
 use borrow.Author.Tests.{le-leb}
 use Rattle.lists.specs.Choice.{choose}
 use Rattle.lists.proofs.Choice.{yes!, choose-eq, true-false}
 use Rattle.model.specs.declared.Request.{Request}
-use Rattle.model.specs.declared.Request.the-variants.{NotRead}
-use Rattle.model.specs.Lines.{fields, name, at, values, readFields, makeBy, readBy, readAll, readLine, stores, lengthOf, hexBytes, dataOf, forms}
+use Rattle.model.specs.Lines.{fields, name, at, values, makeBy, readAll, readLine, stores, lengthOf, hexBytes, dataOf}
 use Rattle.model.specs.Parts.{partsOf, formOf, canonical, dataIn}
 use Rattle.model.specs.Rewritten.{Narrow, AllBytes, ReadsBack}
-use Rattle.model.specs.Session.{hexText}
-use Rattle.model.specs.Written.{fieldText, fieldTexts, takesFields, written, takes}
+use Rattle.model.specs.Written.{fieldText, written, takes}
 use Rattle.digits.proofs.ReadsBack.{hex-read}
 use Rattle.forms.proofs.Storing.{Storing, never, last, storing-at}
 use Rattle.inverse.proofs.FieldTexts.{take-bytes}
-use Rattle.inverse.proofs.FormLaws.{Lawful}
 use Rattle.inverse.proofs.OneLine.{texts, taken-form, taken-fields, taken-law, written-cut, written-short}
 use Rattle.inverse.proofs.Readings.{reads-to}
 use Rattle.inverse.proofs.Requests.{whole}

@@ -2,12 +2,11 @@
 use Prim.Native.Nat.{ℕ, _≤_}
 use mathlib.Core.Bool.{true}
 use mathlib.Core.List.{List, [], _∷_}
-use mathlib.Core.Path.{_≡_, refl, sym, ap, ap₂, _∙_}
+use mathlib.Core.Path.{_≡_, sym, ap₂, _∙_}
 use native.Mathlib.Omega.{arith}
 use lib.Dec.{ltb, leb}
 use lib.ListN.{length, take, length-take}
 use borrow.Author.Tests.{leb-true, le-leb}
-use Rattle.lists.specs.Choice.{both}
 use Rattle.lists.proofs.Choice.{true-false, both-left, both-right, both-intro, choose-elim}
 use Rattle.model.specs.declared.Request.{Request}
 use Rattle.model.specs.Lines.{FieldKind, number, name, right, hex, calls, stores, lengthOf}

@@ -1,8 +1,8 @@
 -- "writing a request read from a good line gives the same bytes". Assumes nothing.
 use Prim.Native.Nat.{ℕ, _<_}
-use mathlib.Core.Bool.{true, false}
+use mathlib.Core.Bool.{true}
 use mathlib.Core.List.{List, [], _∷_, _++_}
-use mathlib.Core.Path.{_≡_, refl, sym, ap, _∙_}
+use mathlib.Core.Path.{_≡_, sym, ap, _∙_}
 use lib.Dec.{ltb}
 use lib.ListN.{getD}
 use borrow.Author.Tests.{lt-ltb}
@@ -10,11 +10,11 @@ use Rattle.lists.specs.Choice.{both}
 use Rattle.lists.proofs.Choice.{both-intro, yes! }
 use Rattle.model.specs.declared.Request.{Request}
 use Rattle.model.specs.Lines.{fields, calls, formAt, values, readFields, readLine, hexBytes, stores, dataOf}
-use Rattle.model.specs.Parts.{Parts, partsOf}
+use Rattle.model.specs.Parts.{partsOf}
 use Rattle.model.specs.Rewritten.{AllBytes, NoNewline, WritesBack}
 use Rattle.model.specs.Written.{fieldTexts, tabbed, written, takesFields, takes}
-use Rattle.forms.proofs.Storing.{Storing, never, last, storeKinds, storing-at}
-use Rattle.inverse.proofs.Cutting.{Each, none, and, Fine, joined, cut-joined, fine-fields}
+use Rattle.forms.proofs.Storing.{Storing, never, last, storing-at}
+use Rattle.inverse.proofs.Cutting.{Each, and, Fine, joined, cut-joined, fine-fields}
 use Rattle.inverse.proofs.FormLaws.{law-at}
 use Rattle.inverse.proofs.LineRead.{LineRead, unasked, asked, line-read}
 use Rattle.inverse.proofs.Readings.{Reads, reads-of, kept-same, Holding, holding-none, holding-last, Rewrites, rewrites}

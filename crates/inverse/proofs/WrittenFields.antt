@@ -1,18 +1,18 @@
 -- The texts of all fields of a request that the writer takes: they can stand in a line, and they are read as the
 -- values. Assumes nothing.
-use Prim.Native.Nat.{ℕ, zero, suc, _+_, _≤_, _<_}
+use Prim.Native.Nat.{ℕ, zero, suc, _≤_, _<_}
 use mathlib.Core.Bool.{Bool, true, false}
-use mathlib.Core.List.{List, [], _∷_, _++_}
+use mathlib.Core.List.{List, [], _∷_}
 use mathlib.Core.Path.{_≡_, refl}
 use native.Mathlib.Omega.{arith}
 use lib.Dec.{leb}
-use lib.ListN.{length, getD, length-append}
+use lib.ListN.{length, getD}
 use borrow.Author.Tests.{leb-true}
 use Rattle.lists.specs.Choice.{both}
 use Rattle.lists.proofs.Choice.{both-left, both-right, true-false}
 use Rattle.model.specs.Lines.{FieldKind, number, name, right, hex, at}
 use Rattle.model.specs.Rewritten.{AllBytes}
-use Rattle.model.specs.Written.{fieldText, fieldTexts, tabbed, takesField, takesFields}
+use Rattle.model.specs.Written.{fieldText, fieldTexts, takesField, takesFields}
 use Rattle.inverse.proofs.Cutting.{Each, none, and, One}
 use Rattle.inverse.proofs.FieldTexts.{Narrowed, text-one, text-reads}
 use Rattle.inverse.proofs.Readings.{Reads, nothing, one}
