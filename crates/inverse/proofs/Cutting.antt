@@ -66,7 +66,9 @@ one-line (b ∷ w) y = all-cons NotNewline b w (one-no-newline b w y) (one-line 
 pub joined-line : (w : List ℕ) (ts : List (List ℕ)) → One w → Each One ts → NoNewline (w ++ tabbed ts)
 unfolding tabbed
 joined-line w [] y none = rw append-nil (one-line w y)
-joined-line w (t ∷ ts) y (and o m) = all-append NotNewline w (9 ∷ (t ++ tabbed ts)) (one-line w y) (all-cons NotNewline 9 (t ++ tabbed ts) refl (joined-line t ts o m))
+joined-line w (t ∷ ts) y (and o m) =
+    all-append NotNewline w (9 ∷ (t ++ tabbed ts)) (one-line w y)
+    (all-cons NotNewline 9 (t ++ tabbed ts) refl (joined-line t ts o m))
 
 -- cut, then joined
 unfoldable pub joined : List (List ℕ) → List ℕ

@@ -50,7 +50,8 @@ hex-high : (l : List ℕ) → Throughout High (hexText l)
 unfolding hexText
 hex-high [] = all-none High
 hex-high (b ∷ l) =
-    all-cons High (hexLetter (b / 16)) (hexLetter (b % 16) ∷ hexText l) (letter-high (b / 16)) (all-cons High (hexLetter (b % 16)) (hexText l) (letter-high (b % 16)) (hex-high l))
+    all-cons High (hexLetter (b / 16)) (hexLetter (b % 16) ∷ hexText l) (letter-high (b / 16))
+    (all-cons High (hexLetter (b % 16)) (hexText l) (letter-high (b % 16)) (hex-high l))
 
 right-one : (v : ℕ) → One (rightText v)
 unfolding rightText oneField both either
@@ -89,7 +90,8 @@ hex-reads v d k y =
     let e : length (take v d) ≡ v = omega (arith, length-take v d) in
     field-read (take v d) (take-bytes v d k) (omega arith) ∙ ap is e
 
-pub text-reads : (k : FieldKind) (v : ℕ) (d : List ℕ) → AllBytes d → Narrowed k v → takesField k v d ≡ true → fieldOf k (fieldText k v d) ≡ is v
+pub text-reads : (k : FieldKind) (v : ℕ) (d : List ℕ) → AllBytes d → Narrowed k v → takesField k v d ≡ true
+    → fieldOf k (fieldText k v d) ≡ is v
 unfolding fieldText takesField fieldOf
 text-reads number v d k n y = number-read v n
 text-reads name v d k n y = name-reads v y

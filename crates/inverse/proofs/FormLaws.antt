@@ -70,7 +70,8 @@ unfolding readBy makeBy
 made-of [] w xs = unmade refl
 made-of (f ∷ fs) w xs = go (sameBytes (f .word) w) refl (readFields (f .kinds) xs) refl (later-made _ f fs w xs (made-of fs w xs))
   where
-    go : (t : Bool) → sameBytes (f .word) w ≡ t → (x : Values) → readFields (f .kinds) xs ≡ x → Made (readBy fs w xs) (f ∷ fs) w xs → Made (readBy (f ∷ fs) w xs) (f ∷ fs) w xs
+    go : (t : Bool) → sameBytes (f .word) w ≡ t → (x : Values) → readFields (f .kinds) xs ≡ x → Made (readBy fs w xs) (f ∷ fs) w xs
+        → Made (readBy (f ∷ fs) w xs) (f ∷ fs) w xs
     go true y unread r i = unmade (yes! _ _ y ∙ ap (makeBy (f .make)) r)
     go true y (values vs) r i = made 0 vs (omega arith) (same-bytes (f .word) w y) r (yes! _ _ y ∙ ap (makeBy (f .make)) r)
     go false y x r i = rw (no! (makeBy (f .make) (readFields (f .kinds) xs)) (readBy fs w xs) y) i

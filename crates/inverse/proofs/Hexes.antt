@@ -80,5 +80,6 @@ hex-back f n e =
     record {
       count = c;
       most = omega (arith, s .1);
-      back = ap hexText (take-all n (hexBytes f) (omega arith)) ∙ hexes-back f (eqb-true (length f % 2) 0 (both-left _ _ t)) (both-right _ _ (s .0));
+      back = ap hexText (take-all n (hexBytes f) (omega arith))
+          ∙ hexes-back f (eqb-true (length f % 2) 0 (both-left _ _ t)) (both-right _ _ (s .0));
     }

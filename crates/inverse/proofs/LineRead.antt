@@ -15,10 +15,11 @@ use Rattle.inverse.proofs.FormLaws.{Made, unmade, made, made-of, law-at
 
 pub data LineRead (l : List ℕ) : Type 0 where
   unasked : readLine l ≡ NotRead → LineRead l
-  asked : (p : ℕ) (xs : List (List ℕ)) (vs : List ℕ) → p < calls → fields l ≡ formAt p .word ∷ xs → readFields (formAt p .kinds) xs ≡ values vs
-      → readLine l ≡ formAt p .make vs → LineRead l
+  asked : (p : ℕ) (xs : List (List ℕ)) (vs : List ℕ) → p < calls → fields l ≡ formAt p .word ∷ xs
+      → readFields (formAt p .kinds) xs ≡ values vs → readLine l ≡ formAt p .make vs → LineRead l
 
-by-form : (l w : List ℕ) (xs : List (List ℕ)) → fields l ≡ w ∷ xs → readLine l ≡ readBy forms w xs → Made (readBy forms w xs) forms w xs → LineRead l
+by-form : (l w : List ℕ) (xs : List (List ℕ)) → fields l ≡ w ∷ xs → readLine l ≡ readBy forms w xs
+    → Made (readBy forms w xs) forms w xs → LineRead l
 by-form l w xs c e (unmade n) = unasked (e ∙ n)
 by-form l w xs c e (made p vs h n r m) = asked p xs vs h (c ∙ ap (λ x. x ∷ xs) (sym n)) r (e ∙ m)
 

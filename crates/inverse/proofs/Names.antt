@@ -32,7 +32,8 @@ unfolding unpadded
 padded-back [] = refl
 padded-back (b ∷ l) = go (blanks (b ∷ l)) refl (padded-back l)
   where
-    go : (t : Bool) → blanks (b ∷ l) ≡ t → unpadded l ++ replicate (length l - length (unpadded l)) 32 ≡ l → unpadded (b ∷ l) ++ replicate (length (b ∷ l) - length (unpadded (b ∷ l))) 32 ≡ b ∷ l
+    go : (t : Bool) → blanks (b ∷ l) ≡ t → unpadded l ++ replicate (length l - length (unpadded l)) 32 ≡ l
+        → unpadded (b ∷ l) ++ replicate (length (b ∷ l) - length (unpadded (b ∷ l))) 32 ≡ b ∷ l
     go true y i = let e : unpadded (b ∷ l) ≡ [] = yes! _ _ y in rw (e, sub-zero) (sym (blanks-are (b ∷ l) y))
     go false y i = let e : unpadded (b ∷ l) ≡ b ∷ unpadded l = no! _ _ y in rw (e, suc-sub-suc) (ap (λ x. b ∷ x) i)
 
@@ -98,7 +99,10 @@ unfolding nameBytes packed lows
 bytes-back [] len k = absurd (omega arith)
 bytes-back (b ∷ l) len k =
     let n = packed (0 * 256 + b) l in
-    let r = packed-same (0 * 256 + n / 72057594037927936) (0 * 256 + b) (lows (shifts n)) l (omega arith) (record { byte = lows-byte (shifts n) }) (bytes-of l (all-tail IsByte b l k)) (packed-bytes n) in
+    let x = lows (shifts n) in
+    let k₁ : Bytes x = record { byte = lows-byte (shifts n) } in
+    let k₂ = bytes-of l (all-tail IsByte b l k) in
+    let r = packed-same (0 * 256 + n / 72057594037927936) (0 * 256 + b) x l (omega arith) k₁ k₂ (packed-bytes n) in
     ap₂ _∷_ (omega (arith, r .0)) (r .1)
 
 blank-bytes : (n : ℕ) → AllBytes (replicate n 32)
@@ -123,11 +127,12 @@ name-back f n k e =
     let u = both-right (both (leb 1 (length f)) (leb (length f) 8)) (noBlank f) (s .0) in
     let m = leb-true (length f) 8 (both-right (leb 1 (length f)) _ t) in
     let p : List ℕ = replicate (8 - length f) 32 in
+    let b = all-append IsByte f p k (blank-bytes (8 - length f)) in
     let len : length (f ++ p) ≡ 8 = omega (arith, length-append f p, length-replicate {A = ℕ} (8 - length f) 32) in
     record {
       least = leb-true 1 (length f) (both-left _ _ t);
       unblank = u;
-      back = ap (λ x. unpadded (nameBytes x)) (sym (s .1)) ∙ ap unpadded (bytes-back (f ++ p) len (all-append IsByte f p k (blank-bytes (8 - length f)))) ∙ text-back f (8 - length f) u;
+      back = ap nameText (sym (s .1)) ∙ ap unpadded (bytes-back (f ++ p) len b) ∙ text-back f (8 - length f) u;
     }
 
 -- a name that the writer takes is read

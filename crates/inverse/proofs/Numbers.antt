@@ -38,7 +38,8 @@ digit-after s b p y w =
     decimal-more (s * 10 + (b - 48)) (omega arith) w ∙ ap₂ (λ x c. decimal x ++ (c ∷ [])) e d
 
 -- digits after a number that is not 0
-digits-after : (s : ℕ) (f : List ℕ) → 1 ≤ s → digits f ≡ true → decimalFrom s f < 18446744073709551616 → decimal (decimalFrom s f) ≡ decimal s ++ f
+digits-after : (s : ℕ) (f : List ℕ) → 1 ≤ s → digits f ≡ true → decimalFrom s f < 18446744073709551616
+    → decimal (decimalFrom s f) ≡ decimal s ++ f
 unfolding digits decimalFrom
 digits-after s [] p y w = sym (append-nil (decimal s))
 digits-after s (b ∷ f) p y w =

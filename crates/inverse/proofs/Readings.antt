@@ -17,21 +17,24 @@ use Rattle.inverse.proofs.FieldTexts.{Holds, right-back, text-back}
 
 pub data Reads : List FieldKind → List (List ℕ) → List ℕ → Type 0 where
   nothing : Reads [] [] []
-  one : {k : FieldKind} {ks : List FieldKind} {f : List ℕ} {fs : List (List ℕ)} {v : ℕ} {vs : List ℕ} → fieldOf k f ≡ is v → Reads ks fs vs → Reads (k ∷ ks) (f ∷ fs) (v ∷ vs)
+  one : {k : FieldKind} {ks : List FieldKind} {f : List ℕ} {fs : List (List ℕ)} {v : ℕ} {vs : List ℕ} → fieldOf k f ≡ is v
+      → Reads ks fs vs → Reads (k ∷ ks) (f ∷ fs) (v ∷ vs)
 
 pub reads-to : {ks : List FieldKind} {fs : List (List ℕ)} {vs : List ℕ} → Reads ks fs vs → readFields ks fs ≡ values vs
 unfolding readFields andThen
 reads-to nothing = refl
 reads-to (one e r) = rw (e, reads-to r)
 
-one-at : (k : FieldKind) (ks : List FieldKind) (fs gs : List (List ℕ)) (vs ws f : List ℕ) (v : ℕ) → fs ≡ f ∷ gs → vs ≡ v ∷ ws → fieldOf k f ≡ is v → Reads ks gs ws → Reads (k ∷ ks) fs vs
+one-at : (k : FieldKind) (ks : List FieldKind) (fs gs : List (List ℕ)) (vs ws f : List ℕ) (v : ℕ)
+    → fs ≡ f ∷ gs → vs ≡ v ∷ ws → fieldOf k f ≡ is v → Reads ks gs ws → Reads (k ∷ ks) fs vs
 one-at k ks fs gs vs ws f v p q e r = rw (p, q) (one e r)
 
 pub reads-of : (ks : List FieldKind) (fs : List (List ℕ)) (vs : List ℕ) → readFields ks fs ≡ values vs → Reads ks fs vs
 reads-of [] fs vs e = let n = none-of fs vs e in rw (n .0, n .1) nothing
 reads-of (k ∷ ks) fs vs e =
     let a = first-of k ks fs vs e in
-    one-at k ks fs (a .fields) vs (a .others) (a .field) (a .value) (a .is-field) (a .is-value) (a .spells) (reads-of ks (a .fields) (a .others) (a .read))
+    one-at k ks fs (a .fields) vs (a .others) (a .field) (a .value) (a .is-field) (a .is-value) (a .spells)
+    (reads-of ks (a .fields) (a .others) (a .read))
 
 -- the values as a request keeps them: a right is a right, and a number again
 abbrev keptAs : FieldKind → ℕ → ℕ
@@ -57,7 +60,8 @@ value-kept name f v e = refl
 value-kept right f v e = right-kept v (right-back f v e .1)
 value-kept hex f v e = refl
 
-kept-from : {ks : List FieldKind} {fs : List (List ℕ)} {vs : List ℕ} → Reads ks fs vs → (ws : List ℕ) (i : ℕ) → ((j : ℕ) → at ws (i + j) ≡ at vs j) → kept ks i ws ≡ vs
+kept-from : {ks : List FieldKind} {fs : List (List ℕ)} {vs : List ℕ} → Reads ks fs vs
+    → (ws : List ℕ) (i : ℕ) → ((j : ℕ) → at ws (i + j) ≡ at vs j) → kept ks i ws ≡ vs
 unfolding kept
 kept-from nothing ws i h = refl
 kept-from (one {k} {ks} {f} {fs} {v} {vs} e r) ws i h =
@@ -70,9 +74,11 @@ kept-same {vs = vs} r = kept-from r vs 0 (λ j. ap (at vs) (omega arith))
 -- data are those of the data field, where there is one
 pub data Holding (d : List ℕ) : List FieldKind → List (List ℕ) → Type 0 where
   empty : Holding d [] []
-  with : {k : FieldKind} {ks : List FieldKind} {f : List ℕ} {fs : List (List ℕ)} → Holds k f d → Holding d ks fs → Holding d (k ∷ ks) (f ∷ fs)
+  with : {k : FieldKind} {ks : List FieldKind} {f : List ℕ} {fs : List (List ℕ)} → Holds k f d → Holding d ks fs
+      → Holding d (k ∷ ks) (f ∷ fs)
 
-pub holding-none : (d : List ℕ) {ks : List FieldKind} {fs : List (List ℕ)} {vs : List ℕ} → Reads ks fs vs → noData ks ≡ true → Holding d ks fs
+pub holding-none : (d : List ℕ) {ks : List FieldKind} {fs : List (List ℕ)} {vs : List ℕ} → Reads ks fs vs → noData ks ≡ true
+    → Holding d ks fs
 unfolding noData
 holding-none d nothing y = empty
 holding-none d (one {k = number} e r) y = with _ (holding-none d r y)
@@ -88,7 +94,8 @@ pub record Rewrites (ks : List FieldKind) (fs : List (List ℕ)) (vs d : List �
   pub taken : takesFields ks vs d ≡ true
   pub texts : fieldTexts ks vs d ≡ fs
 
-pub rewrites : {ks : List FieldKind} {fs : List (List ℕ)} {vs : List ℕ} (d : List ℕ) → Reads ks fs vs → Each Fine fs → Holding d ks fs → Rewrites ks fs vs d
+pub rewrites : {ks : List FieldKind} {fs : List (List ℕ)} {vs : List ℕ} (d : List ℕ) → Reads ks fs vs → Each Fine fs
+    → Holding d ks fs → Rewrites ks fs vs d
 unfolding takesFields fieldTexts
 rewrites d nothing i h = record { taken = refl; texts = refl }
 rewrites d (one {k} {ks} {f} {fs} {v} {vs} e r) (and i m) (with h n) =

@@ -29,7 +29,8 @@ module _ (q : Request) (d : List ℕ) (bytes : AllBytes d) (y : takes q d ≡ tr
       yes! _ _ (le-leb (length (written q d)) 600 (written-short q d y))
       ∙ ap readAll (written-cut q d y)
       ∙ taken-law q d y .picked (texts q d)
-      ∙ ap (makeBy (formOf q .make)) (reads-to (texts-read (formOf q .kinds) (partsOf q .values) d bytes (whole q .shape) n (taken-fields q d y)))
+      ∙ ap (makeBy (formOf q .make))
+      (reads-to (texts-read (formOf q .kinds) (partsOf q .values) d bytes (whole q .shape) n (taken-fields q d y)))
       ∙ whole q .remade
 
   -- the data, where there are any
@@ -47,8 +48,9 @@ module _ (q : Request) (d : List ℕ) (bytes : AllBytes d) (y : takes q d ≡ tr
   data-back : readLine (written q d) ≡ canonical q → dataOf (written q d) ≡ dataIn q d
   unfolding dataOf dataIn
   data-back e =
+      let store = storing-at (partsOf q .form) (taken-form q d y) in
       ap (λ r. choose (stores r) (hexBytes (getD (fields (written q d)) 4 [])) []) e
-      ∙ choose-eq (stores (canonical q)) (λ s. ap (λ fs. hexBytes (getD fs 4 [])) (written-cut q d y) ∙ hexes-read (storing-at (partsOf q .form) (taken-form q d y)) s) (λ _. refl)
+      ∙ choose-eq (stores (canonical q)) (λ s. ap (λ fs. hexBytes (getD fs 4 [])) (written-cut q d y) ∙ hexes-read store s) (λ _. refl)
       ∙ whole q .same-data d
 
 pub reads-back : ReadsBack

@@ -35,14 +35,16 @@ all-longer (k ∷ ks) (v ∷ vs) c d h y =
 data-short : (q : Request) (d : List ℕ) → length (dataIn q d) ≤ length d
 unfolding dataIn
 data-short q d =
-    choose-elim (λ x. length x ≤ length d) (stores q) (take (lengthOf q) d) [] (λ _. omega (arith, length-take (lengthOf q) d)) (λ _. omega arith)
+    choose-elim (λ x. length x ≤ length d) (stores q) (take (lengthOf q) d) []
+    (λ _. omega (arith, length-take (lengthOf q) d)) (λ _. omega arith)
 
 takes-own : (q : Request) (d : List ℕ) → takes (canonical q) (dataIn q d) ≡ true → takes q d ≡ true
 unfolding takes
 takes-own q d y =
     let p = partsOf q in
     let t = sym (takes-by (canonical q) (dataIn q d) (p .form) (p .values) (whole q .same-parts)) ∙ y in
-    both-intro _ _ (both-left (ltb (p .form) calls) _ t) (all-longer (formOf q .kinds) (p .values) (dataIn q d) d (data-short q d) (both-right (ltb (p .form) calls) _ t))
+    both-intro _ _ (both-left (ltb (p .form) calls) _ t)
+    (all-longer (formOf q .kinds) (p .values) (dataIn q d) d (data-short q d) (both-right (ltb (p .form) calls) _ t))
 
 pub refused-rightly : RefusedRightly
 refused-rightly q d f l k n some e c =

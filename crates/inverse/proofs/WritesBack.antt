@@ -56,7 +56,9 @@ module _ (l : List ℕ) (p : ℕ) (xs : List (List ℕ)) (vs : List ℕ) (h : p 
   both-back k n =
       let b = back k n in (
         takes-by (readLine l) (dataOf l) p vs parts-are ∙ both-intro _ _ (lt-ltb p calls h) (b .taken),
-        written-by (readLine l) (dataOf l) p vs parts-are ∙ ap (λ ts. formAt p .word ++ tabbed ts) (b .texts) ∙ ap joined (sym c) ∙ cut-joined l,
+        written-by (readLine l) (dataOf l) p vs parts-are ∙ ap (λ ts. formAt p .word ++ tabbed ts) (b .texts)
+            ∙ ap joined (sym c)
+            ∙ cut-joined l,
       )
 
 pub writes-back : WritesBack

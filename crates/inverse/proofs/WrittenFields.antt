@@ -24,7 +24,8 @@ texts-one (k ∷ ks) [] d y = none
 texts-one (k ∷ ks) (v ∷ vs) d y = and (text-one k v d (both-left _ _ y)) (texts-one ks vs d (both-right (takesField k v d) _ y))
 
 -- the text at each place
-pub text-at : (ks : List FieldKind) (vs d : List ℕ) (i : ℕ) → takesFields ks vs d ≡ true → i < length ks → getD (fieldTexts ks vs d) i [] ≡ fieldText (getD ks i name) (at vs i) d
+pub text-at : (ks : List FieldKind) (vs d : List ℕ) (i : ℕ) → takesFields ks vs d ≡ true → i < length ks
+    → getD (fieldTexts ks vs d) i [] ≡ fieldText (getD ks i name) (at vs i) d
 unfolding takesFields fieldTexts
 text-at [] vs d i y h = absurd (omega arith)
 text-at (k ∷ ks) [] d i y h = true-false y refl
@@ -51,8 +52,8 @@ narrowed name v y n = _
 narrowed right v y n = leb-true v 1 y
 narrowed hex v y n = _
 
-pub texts-read : (ks : List FieldKind) (vs d : List ℕ) → AllBytes d → shaped ks vs ≡ true → ((i : ℕ) → getD ks i name ≡ number → at vs i ≤ 4294967295) → takesFields ks vs d ≡ true
-    → Reads ks (fieldTexts ks vs d) vs
+pub texts-read : (ks : List FieldKind) (vs d : List ℕ) → AllBytes d → shaped ks vs ≡ true
+    → ((i : ℕ) → getD ks i name ≡ number → at vs i ≤ 4294967295) → takesFields ks vs d ≡ true → Reads ks (fieldTexts ks vs d) vs
 unfolding shaped takesFields fieldTexts
 texts-read [] [] d b s n y = nothing
 texts-read [] (v ∷ vs) d b s n y = true-false s refl
