@@ -15,6 +15,7 @@ use Rattle.model.specs.Lines.{is, hexDigit, hexValue, hexDigits, hexField, hexB
 use Rattle.model.specs.Names.{digit}
 use Rattle.model.specs.Session.{hexLetter, hexText}
 use Rattle.fields.proofs.Spelling.{spelt-is}
+use Rattle.inverse.proofs.Numbers.{digit-low, digit-high}
 
 -- a hex digit's value is below 16, and has that digit for its letter
 record Letter (b : ℕ) : Type 0 where
@@ -24,8 +25,8 @@ record Letter (b : ℕ) : Type 0 where
 low-letter : (b : ℕ) → digit b ≡ true → Letter b
 unfolding hexValue hexLetter
 low-letter b y =
-    let l = leb-true 48 b (both-left (leb 48 b) (leb b 57) y) in
-    let h = leb-true b 57 (both-right (leb 48 b) (leb b 57) y) in
+    let l = digit-low b y in
+    let h = digit-high b y in
     let e : hexValue b ≡ b - 48 = yes! _ _ y in
     record { small = omega arith; same = rw e (yes! _ _ (lt-ltb (b - 48) 10 (omega arith)) ∙ omega arith) }
 
@@ -46,7 +47,7 @@ letter-of b y = go (either-to (digit b) _ y)
     go (inr u) = high-letter b u
 
 -- pairs of hex digits, byte by byte
-pub hex-half : (f : List ℕ) → length (hexBytes f) ≡ length f / 2
+hex-half : (f : List ℕ) → length (hexBytes f) ≡ length f / 2
 unfolding hexBytes
 hex-half [] = omega arith
 hex-half (h ∷ []) = omega arith

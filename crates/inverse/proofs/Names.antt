@@ -27,7 +27,7 @@ unfolding blanks
 blanks-are [] y = refl
 blanks-are (b ∷ l) y = ap₂ _∷_ (eqb-true b 32 (both-left (blank b) (blanks l) y)) (blanks-are l (both-right (blank b) (blanks l) y))
 
-pub padded-back : (l : List ℕ) → unpadded l ++ replicate (length l - length (unpadded l)) 32 ≡ l
+padded-back : (l : List ℕ) → unpadded l ++ replicate (length l - length (unpadded l)) 32 ≡ l
 unfolding unpadded
 padded-back [] = refl
 padded-back (b ∷ l) = go (blanks (b ∷ l)) refl (padded-back l)
@@ -55,7 +55,7 @@ text-back (b ∷ f) n y =
     ∙ ap (λ x. b ∷ x) (text-back f n (both-right (not (blank b)) (noBlank f) y))
 
 -- eight bytes packed are the number
-pub packed-bytes : (n : ℕ) → packed 0 (nameBytes n) ≡ n
+packed-bytes : (n : ℕ) → packed 0 (nameBytes n) ≡ n
 unfolding packed nameBytes
 packed-bytes n =
     let a : (0 * 256 + n / 72057594037927936) * 256 + n / 281474976710656 % 256 ≡ n / 281474976710656 = omega arith in
@@ -66,7 +66,7 @@ packed-bytes n =
     let f : n / 65536 * 256 + n / 256 % 256 ≡ n / 256 = omega arith in
     rw (a, b, c, d, e, f) (omega arith)
 
-pub name-packed : (n : ℕ) → packedName (nameText n) ≡ n
+name-packed : (n : ℕ) → packedName (nameText n) ≡ n
 unfolding packedName nameBytes
 name-packed n = ap (packed 0) (padded-back (nameBytes n)) ∙ packed-bytes n
 

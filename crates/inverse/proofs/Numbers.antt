@@ -16,10 +16,10 @@ use Rattle.digits.proofs.Decimals.{decimal-one, decimal-more}
 use Rattle.fields.proofs.Spelling.{spelt-is}
 
 -- a digit is 48 and its value
-digit-low : (b : ℕ) → digit b ≡ true → 48 ≤ b
+pub digit-low : (b : ℕ) → digit b ≡ true → 48 ≤ b
 digit-low b y = leb-true 48 b (both-left (leb 48 b) (leb b 57) y)
 
-digit-high : (b : ℕ) → digit b ≡ true → b ≤ 57
+pub digit-high : (b : ℕ) → digit b ≡ true → b ≤ 57
 digit-high b y = leb-true b 57 (both-right (leb 48 b) (leb b 57) y)
 
 from-least : (s : ℕ) (f : List ℕ) → s ≤ decimalFrom s f

@@ -32,24 +32,24 @@ module _ (q : Request) (d : List ℕ) (p : ℕ) (vs : List ℕ) (e : partsOf q �
 -- a line that a form reads
 module _ (l : List ℕ) (p : ℕ) (xs : List (List ℕ)) (vs : List ℕ) (h : p < calls) (c : fields l ≡ formAt p .word ∷ xs)
     (r : readFields (formAt p .kinds) xs ≡ values vs) (m : readLine l ≡ formAt p .make vs) where
-  reads : Reads (formAt p .kinds) xs vs
-  reads = reads-of (formAt p .kinds) xs vs r
+  its-reading : Reads (formAt p .kinds) xs vs
+  its-reading = reads-of (formAt p .kinds) xs vs r
 
   parts-are : partsOf (readLine l) ≡ record { form = p; values = vs }
-  parts-are = ap partsOf m ∙ law-at p h .parts vs ∙ rw (kept-same reads)
+  parts-are = ap partsOf m ∙ law-at p h .parts vs ∙ rw (kept-same its-reading)
 
   holding : Storing (formAt p) → Holding (dataOf l) (formAt p .kinds) xs
   unfolding dataOf
-  holding (never n f) = holding-none (dataOf l) reads n
+  holding (never n f) = holding-none (dataOf l) its-reading n
   holding (last e y f) =
       let d : dataOf l ≡ hexBytes (getD xs 3 []) = yes! _ _ (ap stores m ∙ y vs) ∙ ap (λ fs. hexBytes (getD fs 4 [])) c in
-      rw (d, e) (holding-last xs (rw e at reads))
+      rw (d, e) (holding-last xs (rw e at its-reading))
 
   fine-others : Each Fine (formAt p .word ∷ xs) → Each Fine xs
   fine-others (and f fs) = fs
 
   back : AllBytes l → NoNewline l → Rewrites (formAt p .kinds) xs vs (dataOf l)
-  back k n = rewrites (dataOf l) reads (fine-others (rw c at (fine-fields l k n))) (holding (storing-at p h))
+  back k n = rewrites (dataOf l) its-reading (fine-others (rw c at (fine-fields l k n))) (holding (storing-at p h))
 
   both-back : AllBytes l → NoNewline l → (takes (readLine l) (dataOf l) ≡ true) × (written (readLine l) (dataOf l) ≡ l)
   unfolding joined
