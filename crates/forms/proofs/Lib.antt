@@ -1,4 +1,5 @@
 -- Laws of the tables, and of the forms that they hold.
+pub mod KindOf
 pub mod Tables
 pub mod Storing
 pub mod Sizes

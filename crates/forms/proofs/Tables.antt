@@ -2,18 +2,18 @@
 use Prim.Native.Nat.{ℕ, zero, suc, _/_, _%_, _≤_, _<_}
 use mathlib.Core.Bool.{Bool, true}
 use mathlib.Core.List.{List, [], _∷_}
-use mathlib.Core.Path.{_≡_, refl, sym, ap, _∙_}
+use mathlib.Core.Path.{_≡_, sym, ap, _∙_}
 use native.Mathlib.Omega.{arith}
 use lib.Dec.{leb}
 use lib.ListN.{length, getD, List·getD-eq-default}
 use borrow.Author.Tests.{leb-true}
-use Rattle.lists.specs.Choice.{choose}
 use Rattle.lists.specs.Places.{every}
 use Rattle.lists.proofs.Places.{every-at}
-use Rattle.fields.specs.Fields.{kindNumber, shortKind}
+use Rattle.fields.specs.Fields.{kindNumber}
 use Rattle.fields.proofs.KindNumbers.{kind-small}
 use Rattle.forms.specs.Tables.{shapeOf, kindOf}
-use Rattle.model.specs.Lines.{FieldKind, number, name, right, hex, forms, calls, noForm, formAt}
+use Rattle.forms.proofs.KindOf.{kind-back}
+use Rattle.model.specs.Lines.{FieldKind, forms, calls, noForm, formAt}
 
 -- shapes
 pub shape-none : (k : FieldKind) (ks : List FieldKind) → shapeOf (k ∷ ks) ≡ 0 → ⊥
@@ -32,13 +32,6 @@ shape-rest k ks = omega (arith, kind-small k)
 pub data Kinds (shape : ℕ) : List FieldKind → Type 0 where
   none : shape ≡ 0 → Kinds shape []
   more : (k : FieldKind) (ks : List FieldKind) → (shape ≡ 0 → ⊥) → kindOf (shape % 8) ≡ k → shape / 8 ≡ shapeOf ks → Kinds shape (k ∷ ks)
-
-kind-back : (k : FieldKind) → kindOf (kindNumber k) ≡ k
-unfolding kindOf kindNumber shortKind choose
-kind-back number = refl
-kind-back name = refl
-kind-back right = refl
-kind-back hex = refl
 
 shape-kind : (k : FieldKind) (ks : List FieldKind) → shapeOf (k ∷ ks) % 8 ≡ kindNumber k
 unfolding shapeOf
