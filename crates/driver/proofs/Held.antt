@@ -5,17 +5,17 @@ use mathlib.Core.Path.{_≡_, subst, ap}
 use native.Mathlib.Omega.{arith}
 use lib.ListN.{length, take, length-take}
 use Rattle.lists.proofs.Parts.{take-least}
+use Rattle.feeds.specs.Feed.{Feed, withHeld}
+use Rattle.feeds.specs.Fed.{FedTo}
 use Rattle.driver.specs.declared.Session.{Session}
-use Rattle.driver.specs.Feed.{Feed}
-use Rattle.driver.specs.Fed.{feedOf, FedTo}
+use Rattle.driver.specs.Fed.{feedOf}
 
 abbrev pub within : Session → ℕ → Session
 within s k = record { begun = s .begun; line = s .line; have = k; state = s .state }
 
 pub kept-same : (s : Session) (h m : List ℕ) (k : ℕ) → k ≡ length (take (s .have) h) → feedOf (within s k) h m ≡ feedOf s h m
 kept-same s h m k e =
-    ap (λ (l : List ℕ). record { session = record { begun = s .begun; tables = s .state; scratch = m }; line = s .line; held = l })
-    (take-least h (s .have) k (omega (arith, length-take (s .have) h)))
+    ap (withHeld (feedOf s h m)) (take-least h (s .have) k (omega (arith, length-take (s .have) h)))
 
 pub kept-fed : (s : Session) (h m input out out₁ : List ℕ) (k used written : ℕ) (f : Feed) → k ≡ length (take (s .have) h)
     → FedTo (feedOf (within s k) h m) input out used written f out₁ → FedTo (feedOf s h m) input out used written f out₁

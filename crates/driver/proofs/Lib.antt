@@ -1,7 +1,4 @@
-pub mod Bounds
-pub mod Cut
 pub mod Ending
-pub mod Feeding
 pub mod Heard
 pub mod Held
 pub mod Pieces
@@ -10,4 +7,3 @@ pub mod Stepped
 pub mod Stopped
 pub mod Turned
 pub mod Whole
-pub mod Used

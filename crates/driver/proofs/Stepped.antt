@@ -1,10 +1,9 @@
 -- One line: read, and answered at once or on the tables. Assumes nothing.
-use Prim.Native.Nat.{ℕ, _+_, _-_, _≤_}
+use Prim.Native.Nat.{ℕ}
 use mathlib.Core.Bool.{Bool, true, false}
 use mathlib.Core.List.{List, []}
 use mathlib.Core.Path.{_≡_, refl, subst, sym, ap, _∙_}
-use native.Mathlib.Nat.{sub-zero}
-use lib.ListN.{length, take, drop, replicate}
+use lib.ListN.{length, take, replicate}
 use lib.Seq.{take-at}
 use Rattle.lists.specs.Bytes.{over}
 use Rattle.lists.specs.Choice.{choose}
@@ -32,8 +31,6 @@ use Rattle.views.specs.declared.View.{View}
 use Rattle.asks.specs.Asks.{asksFor}
 use Rattle.views.specs.Views.{viewOf}
 use Rattle.model.specs.declared.State.{State}
-use Rattle.driver.specs.Feed.{wholeLine}
-use Rattle.driver.proofs.Cut.{read-cut, data-cut}
 
 -- What the reader leaves of the line l: its request q, and its data over the zeros of a buffer b.
 module _ (l : List ℕ) (q : Request) (b : List ℕ) (e : q ≡ readLine l) (f : b ≡ over (replicate 257 0) 0 (dataOf l)) where
@@ -103,25 +100,3 @@ sees-read s q a room x v e p r f = record { ready = r; frames = f; view = p ∙ 
 
 pub seeing-read : (s : State) (q : Request) (a : Asks) (room : ℕ) (x : Here) (v : View) → a ≡ asksFor q → v ≡ viewOf s a → x .ready ≡ usable s room → x .frames ≡ s .frames → Seeing q room x v
 seeing-read s q a room x v e p r f = record { tables = s; sees = sees-read s q a room x v e p r f }
-
--- a line of which no byte is held stands whole in the input
-module _ (h l : List ℕ) (have : ℕ) (e : have ≡ 0) where
-  whole-is : wholeLine h have l ≡ take 601 l
-  whole-is = rw e refl
-
-  pub whole-read : (q : Request) → q ≡ readLine l → q ≡ readLine (wholeLine h have l)
-  whole-read q p = p ∙ sym (read-cut l) ∙ ap readLine (sym whole-is)
-
-  pub whole-data : (b b₀ : List ℕ) → b ≡ over b₀ 0 (dataOf l) → b ≡ over b₀ 0 (dataOf (wholeLine h have l))
-  whole-data b b₀ p = p ∙ ap (over b₀ 0) (sym (data-cut l) ∙ ap dataOf (sym whole-is))
-
--- else its rest was put behind what is held
-module _ (h h' l : List ℕ) (have n : ℕ) (e : take n h' ≡ wholeLine h have l) where
-  held-is : take (n - 0) (drop 0 h') ≡ wholeLine h have l
-  held-is = ap (λ k. take k h') (sub-zero n) ∙ e
-
-  pub held-read : (q : Request) → q ≡ readLine (take (n - 0) (drop 0 h')) → q ≡ readLine (wholeLine h have l)
-  held-read q p = p ∙ ap readLine held-is
-
-  pub held-data : (b b₀ : List ℕ) → b ≡ over b₀ 0 (dataOf (take (n - 0) (drop 0 h'))) → b ≡ over b₀ 0 (dataOf (wholeLine h have l))
-  held-data b b₀ p = p ∙ ap (λ k. over b₀ 0 (dataOf k)) held-is

@@ -6,10 +6,11 @@ use native.Mathlib.Omega.{arith}
 use lib.ListN.{length, take, drop, length-take}
 use Rattle.turns.specs.declared.Host.{Host}
 use Rattle.turns.specs.Taken.{sessionOf}
+use Rattle.feeds.specs.Feed.{answers, Feed, newlineFrom}
+use Rattle.feeds.specs.Fed.{Starts, Going, FedTo}
+use Rattle.feeds.proofs.Feeding.{going-part, fed-full, fed-whole}
 use Rattle.driver.specs.declared.Fed.{Fed}
-use Rattle.driver.specs.Feed.{Feed, newlineFrom}
-use Rattle.driver.specs.Fed.{feedOf, Starts, Going, FedTo}
-use Rattle.driver.proofs.Feeding.{going-part, fed-full, fed-whole}
+use Rattle.driver.specs.Fed.{feedOf}
 use Rattle.driver.proofs.Turned.{feedAt}
 
 -- what is handed back
@@ -32,5 +33,5 @@ module _ (f : Feed) (input out out₁ m held : List ℕ) (i a n have : ℕ) (h :
       → r ≡ handed h a n k e → FedTo f input out (r .used) (r .written) (feedOf (r .session) held₁ m) out₁
   stop-part e k held₁ q l few fits all kept z =
       let short : length (take have held) ≤ 601 = omega (arith, length-take have held) in
-      let more = going-part f input out out₁ i e a n (sessionOf h m) (take have held) g q l short fits (take k held₁) (omega arith) kept in
+      let more = going-part f input out out₁ i e a n answers (sessionOf h m) (take have held) g q l short fits (take k held₁) (omega arith) kept in
       rw z (fed-whole f input out out₁ e a _ more (omega arith))

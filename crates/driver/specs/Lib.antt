@@ -1,4 +1,4 @@
--- The session by bytes, the calls in it, and where the driver stands in it.
-pub mod Feed
-pub mod Served
+-- Where the driver stands in a session, the outcomes of its lines, and the calls in it.
 pub mod Fed
+pub mod Heard
+pub mod Served

@@ -4,13 +4,11 @@ ghost use Prim.Native.Nat.{_+_, _≤_};
 ghost use mathlib.Core.Path.{_≡_};
 ghost use lib.ListN.{length};
 ghost use Rattle.digits.specs.Wrote.{Wrote};
-ghost use Rattle.lists.specs.Bytes.{over};
-ghost use Rattle.model.specs.Lines.{readLine, dataOf};
-ghost use Rattle.driver.specs.Feed.{ended, replyTo, newlineFrom, wholeLine};
-ghost use Rattle.driver.specs.Fed.{feedOf, opened, FedTo, FinishedTo};
+ghost use Rattle.feeds.specs.Feed.{ended, replyTo};
+ghost use Rattle.feeds.specs.Fed.{FedTo, FinishedTo};
+ghost use Rattle.driver.specs.Fed.{feedOf, opened};
 use edits::Edit;
 use keys::Guard;
-use model::Request;
 use model::State;
 use turns::Answered;
 use turns::Here;
@@ -50,14 +48,6 @@ pub fn open() -> Session
     }
 }
 
-// The place of the first newline from `from` on, or the length.
-fn line_end(input: &[u8], from: usize) -> usize
-    requires { ⌜ from ≤ length (now input) ⌝ }
-    ensures { λ r. ⌜ (r ≡ newlineFrom (now (input .entry)) from) × (from ≤ r) × (r ≤ length (now (input .entry))) ⌝ }
-{
-    moves::find(input, from, 10)
-}
-
 fn stand(begun: bool, state: State, line: u64, have: usize, used: usize, written: usize) -> Fed
     ensures { λ r. ⌜ r ≡ record { session = record { begun = begun; line = line; have = have; state = state }; used = used; written = written } ⌝ }
 {
@@ -71,19 +61,6 @@ fn stand(begun: bool, state: State, line: u64, have: usize, used: usize, written
         used: used,
         written: written,
     }
-}
-
-// The request of a line whose first bytes may be held: a line that lies whole in the input is read where it stands.
-fn read_request(held: &mut [u8], have: usize, rest: &[u8], buffer: &mut [u8; 257]) -> Request
-    requires { ⌜ (length (now held) ≡ 601) × (have ≤ 601) ⌝ }
-    ensures { λ r. ⌜ r ≡ readLine (wholeLine (now (held .entry)) have (now (rest .entry))) ⌝ }
-    ensures { λ _. ⌜ now (buffer .exit) ≡ over (now (buffer .entry)) 0 (dataOf (wholeLine (now (held .entry)) have (now (rest .entry)))) ⌝ }
-{
-    if have == 0 {
-        return lines::read_line(rest, buffer);
-    }
-    let n = held::hold(held, have, rest);
-    lines::read_line(&held[0..n], buffer)
 }
 
 // A piece of input, where no more bytes are said to be held than there is room for. The loop owns the tables: it reads out
@@ -110,14 +87,14 @@ fn feed_lines(
         if out.len() - at < 600 {
             return stand(begun, state, line, have, i, at);
         }
-        let e = line_end(input, i);
+        let e = feeds::line_end(input, i);
         if e == input.len() {
             let n = held::hold(held, have, &input[i..e]);
             return stand(begun, state, line, n, e, at);
         }
         let next = e + 1;
         let mut buffer = [0u8; 257];
-        let request = read_request(held, have, &input[i..e], &mut buffer);
+        let request = feeds::read_request(held, have, &input[i..e], &mut buffer);
         let asks = asks::asked(request);
         let row = lookup::row(asks.caller);
         let guest = state.guests[row];

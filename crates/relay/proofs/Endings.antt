@@ -8,15 +8,16 @@ use native.Mathlib.Omega.{arith}
 use lib.ListN.{length, take}
 use Rattle.descriptors.specs.declared.Got.{Got}
 use Rattle.descriptors.specs.declared.Got.the-variants as got
+use Rattle.feeds.specs.Feed.{Feed, after, said, lastWords, allSaid, newFeed}
+use Rattle.feeds.specs.Fed.{closing, FinishedTo, finished, full}
+use Rattle.feeds.proofs.Chain.{wrote-text}
 use Rattle.driver.specs.declared.Session.{Session}
-use Rattle.driver.specs.Feed.{Feed, after, said, lastWords, newFeed}
-use Rattle.driver.specs.Fed.{feedOf, opened, closing, FinishedTo, finished, full}
+use Rattle.driver.specs.Fed.{feedOf, opened}
 use Rattle.relay.specs.declared.Ending.{Ending}
 use Rattle.relay.specs.declared.How.{How}
 use Rattle.relay.specs.declared.How.the-variants.{Answered, ReadingFailed, WritingFailed}
 use Rattle.relay.specs.Spoken.{counted, repliedTo, Spoken}
-use Rattle.relay.specs.Ran.{allSaid, Ran, answered, unread, unwritten, Stops, failed, interrupted, brought, RunTo, headed}
-use Rattle.relay.proofs.Parts.{wrote-text}
+use Rattle.relay.specs.Ran.{Ran, answered, unread, unwritten, Stops, failed, interrupted, brought, RunTo, headed}
 
 -- no input
 none-counted : (n : ℕ) → n < 18446744073709551616 → n ≡ counted (n + 0)

@@ -6,14 +6,14 @@ use mathlib.Core.Path.{_≡_, refl, sym, ap, _∙_, subst}
 use native.Mathlib.Omega.{arith}
 use lib.ListN.{length, take, length-append, length-take}
 use lib.Seq.{take-append-add, take-append-le}
-use Rattle.driver.specs.Feed.{Feed, after, said, lastWords}
-use Rattle.driver.specs.Fed.{closing}
-use Rattle.driver.proofs.Pieces.{after-append, said-append}
+use Rattle.feeds.specs.Feed.{Feed, after, said, lastWords, allSaid}
+use Rattle.feeds.specs.Fed.{closing}
+use Rattle.feeds.proofs.Pieces.{after-append, said-append}
 use Rattle.relay.specs.declared.How.{How}
 use Rattle.relay.specs.declared.How.the-variants.{WritingFailed}
 use Rattle.relay.specs.declared.Said.{Said}
 use Rattle.relay.specs.Spoken.{counted, repliedTo}
-use Rattle.relay.specs.Ran.{PieceTo, allSaid, Ran, answered, unread, unwritten}
+use Rattle.relay.specs.Ran.{PieceTo, Ran, answered, unread, unwritten}
 use Rattle.relay.proofs.Lines.{Numbered, numbered}
 use Rattle.relay.proofs.Spoken.{replied-join, sum-join}
 

@@ -7,7 +7,7 @@ use native.Mathlib.Nat.{mod-lt, mod-eq-of-lt, mod-add-mod}
 use native.Mathlib.Omega.{arith}
 use lib.Dec.{eqb, lit<}
 use Rattle.lists.specs.Choice.{choose}
-use Rattle.driver.specs.Feed.{Feed, ended, replyTo, next, says, after, said}
+use Rattle.feeds.specs.Feed.{Feed, ended, replyTo, next, says, after, said}
 use Rattle.descriptors.specs.Came.{newlines}
 use Rattle.descriptors.proofs.Newlines.{newlines-append}
 use Rattle.relay.specs.Spoken.{counted}

@@ -6,24 +6,18 @@ use mathlib.Core.Path.{_≡_, refl, sym, ap, _∙_, subst}
 use native.Mathlib.Nat.{mod-eq-of-lt}
 use native.Mathlib.Omega.{arith}
 use lib.ListN.{length, take, drop, length-append, length-drop, take-append-drop}
-use lib.Seq.{take-add, take-all, take-at}
-use Rattle.lists.specs.Bytes.{over}
+use lib.Seq.{take-add, take-all}
 use Rattle.lists.proofs.Choice.{true-false}
-use Rattle.digits.specs.Wrote.{Wrote}
-use Rattle.driver.specs.Feed.{Feed, after, said}
-use Rattle.driver.specs.Fed.{FedTo}
-use Rattle.driver.proofs.Bounds.{fed-some}
-use Rattle.driver.proofs.Pieces.{after-append, said-append}
+use Rattle.feeds.specs.Feed.{Feed, after, said}
+use Rattle.feeds.specs.Fed.{FedTo}
+use Rattle.feeds.proofs.Bounds.{fed-some}
+use Rattle.feeds.proofs.Chain.{wrote-text}
+use Rattle.feeds.proofs.Pieces.{after-append, said-append}
 use Rattle.relay.specs.declared.Said.{Said}
 use Rattle.relay.specs.Spoken.{counted, Spoken}
 use Rattle.relay.specs.Ran.{PartTo, PieceTo}
 use Rattle.relay.proofs.Lines.{Numbered, numbered}
 use Rattle.relay.proofs.Spoken.{spoken-whole, spoken-after, sum-join}
-
--- the bytes written into the room are the text
-pub wrote-text : {o o₁ w : List ℕ} {n : ℕ} → Wrote o 0 w o₁ n → take n o₁ ≡ w
-unfolding over
-wrote-text {o} {o₁} {w} {n} t = ap (take n) (t .bytes) ∙ take-at w (drop (0 + length w) o) n (omega (arith, t .place))
 
 -- one feed, and what became of its text
 pub part-to : {f g : Feed} {piece out out' : List ℕ} {used n before : ℕ} {s : Said} → FedTo f piece out used n g out' → 600 ≤ length out

@@ -8,7 +8,7 @@ use native.Mathlib.Omega.{arith}
 use lib.ListN.{length, take, length-append}
 use lib.Seq.{take-append-add, take-append-le}
 use Rattle.lists.proofs.Choice.{true-false}
-use Rattle.driver.specs.Feed.{Feed}
+use Rattle.feeds.specs.Feed.{Feed}
 use Rattle.descriptors.specs.Came.{newlines}
 use Rattle.descriptors.proofs.Newlines.{newlines-append}
 use Rattle.relay.specs.Spoken.{counted, repliedTo, Spoken}

@@ -2,13 +2,13 @@
 -- told; the bytes that were written are the first `count` of what the session says to them.
 use Prim.Native.Nat.{ℕ, _+_, _≤_, _<_}
 use mathlib.Core.Bool.{false}
-use mathlib.Core.List.{List, _++_}
+use mathlib.Core.List.{List}
 use mathlib.Core.Path.{_≡_}
 use lib.ListN.{length, take}
 use Rattle.descriptors.specs.declared.Got.{Got}
 use Rattle.descriptors.specs.declared.Got.the-variants as got
-use Rattle.driver.specs.Feed.{Feed, after, said, lastWords}
-use Rattle.driver.specs.Fed.{closing}
+use Rattle.feeds.specs.Feed.{Feed, after, said, allSaid}
+use Rattle.feeds.specs.Fed.{closing}
 use Rattle.relay.specs.declared.How.{How}
 use Rattle.relay.specs.declared.How.the-variants.{Answered, ReadingFailed, WritingFailed}
 use Rattle.relay.specs.declared.Said.{Said}
@@ -25,10 +25,6 @@ pub record PartTo (f : Feed) (piece : List ℕ) (before used : ℕ) (s : Said) (
 pub record PieceTo (f : Feed) (piece : List ℕ) (before : ℕ) (s : Said) (g : Feed) : Type 0 where
   pub feed : s .failed ≡ false → g ≡ after f piece
   pub text : Spoken (said f piece) (f .line) before (s .failed) (s .line) (s .written)
-
--- all that a session says after its header
-abbrev pub allSaid : Feed → (input : List ℕ) → List ℕ
-allSaid f input = said f input ++ lastWords (after f input)
 
 -- How the session ended, with scratch then, where so many bytes had been taken and written before.
 pub data Ran (f : Feed) (t w : ℕ) : How → (line taken written : ℕ) → (scratch : List ℕ) → Type 0 where

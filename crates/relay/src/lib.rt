@@ -4,7 +4,7 @@ ghost use Prim.Native.Nat.{_≤_};
 ghost use mathlib.Core.List.{[]};
 ghost use mathlib.Core.Path.{_≡_};
 ghost use lib.ListN.{length};
-ghost use Rattle.driver.specs.Feed.{newFeed};
+ghost use Rattle.feeds.specs.Feed.{newFeed};
 ghost use Rattle.driver.specs.Fed.{feedOf};
 ghost use Rattle.relay.specs.Spoken.{repliedTo, Spoken};
 ghost use Rattle.relay.specs.Ran.{PartTo, PieceTo, Ran, Stops, RunTo};

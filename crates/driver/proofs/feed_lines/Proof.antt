@@ -5,13 +5,13 @@ use mathlib.Core.Logic.{inl}
 use mathlib.Core.Path.{refl, ap}
 use native.Mathlib.Omega.{arith}
 use Rattle.model.specs.declared.Change.the-variants.{IsolateSpace}
+use Rattle.feeds.proofs.Feeding.{going-start}
 use Rattle.closing.proofs.Withdrawn.{isolated-by}
 use Rattle.edits.specs.Edits.{changeOf}
 use Rattle.views.proofs.Lists.{within-list, took-on, took-within, took-nearer}
 use Rattle.views.proofs.Slots.{at-inside, went-on, went-nearer, went-inside}
 use Rattle.driver.proofs.feed_lines.Proof.Loop.{Inv-loop2, μ-loop2, Inv-loop3, μ-loop3, Inv-loop, μ-loop, read, found, top, before, tables, here, sees, again}
 use Rattle.driver.proofs.feed_lines.Proof.Stored.{enum-known-edit, cast-p, element-set-from-p, loop-less-2, loop-again-2, enum-known-edit-2, cast-n, mul-n-2, element-set-from-n, loop-less-3, loop-again-3, enum-known-edit-3, cast-c, mul-changed, element-copy-out-changed, cast-changed, mul-changed-2, element-write-changed, mul-t147, element-set-from-state, loop-less-4, loop-again-4, enum-known-edit-4, cast-c-2, mul-changed-3, element-copy-out-changed-2, mul-changed-4, element-set-from-changed, loop-less-5, loop-again-5, enum-known-edit-5, cast-c-3, mul-changed-5, element-copy-out-changed-3, mul-changed-6, element-set-from-changed-2, loop-less-6, loop-again-6, enum-known-edit-6, cast-protects, mul-protects, element-set-from-protects, loop-less-7, loop-again-7}
-use Rattle.driver.proofs.Feeding.{going-start}
 use Rattle.driver.proofs.Stepped.{read-prepared, read-long, line-edits, line-edited, line-closes, line-closed, line-waits, line-ready, line-changed}
 use Rattle.driver.proofs.Stopped.{stop-full, stop-end, stop-part}
 use Rattle.driver.proofs.Turned.{stored-taken}

@@ -1,7 +1,7 @@
 -- `relay::answer_end` meets its contract. Assumes nothing.
 use native.Mathlib.Omega.{arith}
 use borrow.Author.Needs.{needs}
-use Rattle.driver.proofs.Bounds.{finished-written}
+use Rattle.feeds.proofs.Bounds.{finished-written}
 use Rattle.relay.specs.Ran.{ended, endedUnwritten}
 use Rattle.relay.proofs.Endings.{end-unwritten, end-answered}
 use Rattle.relay.proofs.answer_end.Statement.{statement}

@@ -1,8 +1,8 @@
 -- The loop of `driver::feed_lines`: its invariants, and what is known at three places of a turn. Assumes nothing.
 use Rattle.closing.proofs.entries_without.Reads as entries-without-reads
 use Rattle.closing.proofs.permits_without.Reads as permits-without-reads
-use Rattle.driver.proofs.line_end.Reads as line-end-reads
-use Rattle.driver.proofs.read_request.Reads as read-request-reads
+use Rattle.feeds.proofs.line_end.Reads as line-end-reads
+use Rattle.feeds.proofs.read_request.Reads as read-request-reads
 use Rattle.driver.proofs.stand.Reads as stand-reads
 use Rattle.held.proofs.hold.Reads as hold-reads
 use Rattle.lookup.proofs.place_of.Reads as place-of-reads
@@ -44,9 +44,9 @@ use Rattle.turns.specs.declared.Host.{Host}
 use Rattle.turns.specs.declared.Outcome.{Outcome}
 use Rattle.turns.specs.Taken.{sessionOf, outcomeOf, Taken}
 use Rattle.turns.specs.Told.{Sees}
-use Rattle.driver.specs.Feed.{Feed, wholeLine}
-use Rattle.driver.specs.Fed.{Starts, Going}
-use Rattle.driver.proofs.Feeding.{line-starts}
+use Rattle.feeds.specs.Feed.{answers, Feed, wholeLine}
+use Rattle.feeds.specs.Fed.{Starts, Going}
+use Rattle.feeds.proofs.Feeding.{line-starts}
 use Rattle.driver.proofs.Stepped.{sees-read}
 use Rattle.driver.proofs.Turned.{feedAt, turned}
 use Rattle.driver.proofs.feed_lines.Tie as tie
@@ -175,7 +175,7 @@ pub again : (n : Next) (h : Host) (m b out : List ℕ) (o : Outcome) (p : ℕ)
     → Taken (lineTurn (sessionOf (host (top (before n))) (top (before n) .loop .scratch)) (ended (before n))) o b h m
     → Wrote (top (before n) .loop .out) (top (before n) .loop .at) (lineText (top (before n) .loop .line) (outcomeOf o b)) out p
     → Going (started (top (before n))) (input (top (before n))) ((top (before n)) .before .before .before .before .before .before .before .args .out .now) (end (before n) + 1) p
-    (record { session = sessionOf h m; line = n .wrapping-add-u64 .result; held = [] }) out
+    (record { work = answers; session = sessionOf h m; line = n .wrapping-add-u64 .result; held = [] }) out
     × (h .ready ≡ usable (h .state) (length m)) × Starts (input (top (before n))) (end (before n) + 1)
 again n h m b out o p t w =
     let c = before n in

@@ -1,7 +1,7 @@
 -- What finish has written lies in the room. Assumes nothing.
 use native.Mathlib.Omega.{arith}
 use borrow.Author.Needs.{needs}
-use Rattle.driver.proofs.Bounds.{finished-written}
+use Rattle.feeds.proofs.Bounds.{finished-written}
 use Rattle.sessions.proofs.runs.end.Statement.{statement}
 use Rattle.sessions.proofs.runs.end.Tie as tie
 

@@ -4,7 +4,7 @@ use mathlib.Core.Path.{_≡_}
 use native.Mathlib.Omega.{arith}
 use lib.ListN.{length}
 use borrow.Author.Needs.{needs}
-use Rattle.driver.proofs.Bounds.{fed-within, fed-written, fed-some}
+use Rattle.feeds.proofs.Bounds.{fed-within, fed-written, fed-some}
 use Rattle.sessions.proofs.runs.feed_piece.Statement.{statement}
 use Rattle.sessions.proofs.runs.feed_piece.Tie as tie
 

@@ -1,9 +1,9 @@
--- The driver's loop, turn by turn: a line, a part of a line, and its three ends. Assumes nothing.
+-- A loop over input, turn by turn: a line, a part of a line, and its three ends. Assumes nothing.
 use Prim.Native.Nat.{ℕ, suc, _+_, _-_, _≤_, _<_}
 use mathlib.Core.Bool.{false}
 use mathlib.Core.List.{List, [], _∷_, _++_, append-assoc, append-nil}
 use mathlib.Core.Logic.{inl, inr}
-use mathlib.Core.Path.{_≡_, refl, sym, ap, _∙_}
+use mathlib.Core.Path.{_≡_, refl, sym, ap, ap₂, _∙_}
 use native.Mathlib.Decide.{decLe}
 use native.Mathlib.Numerals.{add-one}
 use native.Mathlib.Omega.{arith}
@@ -14,19 +14,16 @@ use borrow.Author.Tests.{eq-eqb, eqb-true, eqb-false}
 use Rattle.lists.proofs.Choice.{yes!, no! }
 use Rattle.lists.proofs.Parts.{take-kept}
 use Rattle.lists.proofs.Places.{lowest-from-holds, lowest-from-least}
-use Rattle.model.specs.Session.{Session, lineTurn, lineText, nextLine}
+use Rattle.model.specs.Session.{Session}
 use Rattle.digits.specs.Wrote.{Wrote}
 use Rattle.digits.proofs.Writing.{wrote-none, wrote-more}
-use Rattle.driver.specs.Feed.{Feed, ended, replyTo, holding, next, says, after, said, newlineFrom}
-use Rattle.driver.specs.Fed.{Starts, Going, FedTo}
-use Rattle.driver.proofs.Pieces.{after-append, said-append}
+use Rattle.feeds.specs.Feed.{Work, sessionAfter, sayingTo, numberAfter, Feed, ended, replyTo, withHeld, holding, next, says, after, said, newlineFrom}
+use Rattle.feeds.specs.Fed.{Starts, Going, FedTo}
+use Rattle.feeds.proofs.Pieces.{after-append, said-append}
 
 -- no byte of x is a newline
 abbrev Plain : List ℕ → Type 0
 Plain x = (k : ℕ) → k < length x → eqb (getD x k 0) 10 ≡ false
-
-abbrev withHeld : Feed → List ℕ → Feed
-withHeld f l = record { session = f .session; line = f .line; held = l }
 
 -- bytes that are no newlines are held, and nothing is said to them
 plain-after : (f : Feed) (x : List ℕ) → length (f .held) ≤ 601 → Plain x → after f x ≡ holding f (f .held ++ x)
@@ -95,11 +92,11 @@ unfolding after said
 going-start f input out = record { feed = refl; text = wrote-none out 0 (omega arith); within = omega arith; room = λ k h _. absurd (omega arith) }
 
 -- where a feed stands
-abbrev standing : Session → (line : ℕ) → (held : List ℕ) → Feed
-standing s n h = record { session = s; line = n; held = h }
+abbrev standing : Work → Session → (line : ℕ) → (held : List ℕ) → Feed
+standing v s n h = record { work = v; session = s; line = n; held = h }
 
-module _ (f : Feed) (input out out₁ : List ℕ) (i e a n : ℕ) (s : Session) (h : List ℕ)
-    (g : Going f input out i a (standing s n h) out₁) (q : e ≡ newlineFrom input i) (l : i ≤ e) (few : length h ≤ 601) (fits : a + 600 ≤ length out) where
+module _ (f : Feed) (input out out₁ : List ℕ) (i e a n : ℕ) (v : Work) (s : Session) (h : List ℕ)
+    (g : Going f input out i a (standing v s n h) out₁) (q : e ≡ newlineFrom input i) (l : i ≤ e) (few : length h ≤ 601) (fits : a + 600 ≤ length out) where
   -- there was room wherever a line started up to its end
   still-room : (k : ℕ) → k ≤ e → Starts input k → length (said f (take k input)) + 600 ≤ length out
   still-room k b t = go (decLe i k)
@@ -111,31 +108,31 @@ module _ (f : Feed) (input out out₁ : List ℕ) (i e a n : ℕ) (s : Session) 
   abbrev line : List ℕ
   line = take 601 (h ++ take (e - i) (drop i input))
 
-  -- A line more, to its newline: it is answered.
-  pub going-line : (s₁ : Session) (out₂ : List ℕ) (b : ℕ) → e < length input → s₁ ≡ lineTurn s line .after
-      → Wrote out₁ a (lineText n (lineTurn s line .outcome)) out₂ b → Going f input out (e + 1) b (standing s₁ (nextLine n) []) out₂
-  going-line s₁ out₂ b less t w =
+  -- A line more, to its newline: it is worked on.
+  pub going-line : (s₁ : Session) (n₁ : ℕ) (out₂ : List ℕ) (b : ℕ) → e < length input → s₁ ≡ sessionAfter v s line → n₁ ≡ numberAfter v n line
+      → Wrote out₁ a (sayingTo v s n line) out₂ b → Going f input out (e + 1) b (standing v s₁ n₁ []) out₂
+  going-line s₁ n₁ out₂ b less t j w =
       let x = take i input in
       let r = take (e - i) (drop i input) ++ (10 ∷ []) in
       let p = rest-plain input i e q l in
       let c : take (e + 1) input ≡ x ++ r = up-after input i e q l less in
-      let y : after f (take (e + 1) input) ≡ ended (standing s n line) =
-      ap (after f) c ∙ after-append f x r ∙ rw (← g .feed) (line-after (standing s n h) _ few p) in
-      let z : said f (take (e + 1) input) ≡ said f x ++ replyTo (standing s n line) =
-      ap (said f) c ∙ said-append f x r ∙ rw (← g .feed) (ap (λ k. said f x ++ k) (line-said (standing s n h) _ few p)) in
-      record { feed = ap (λ k. standing k (nextLine n) []) t ∙ sym y; text = rw z (wrote-more (g .text) w); within = omega arith; room = λ k b u. still-room k (omega arith) u }
+      let y : after f (take (e + 1) input) ≡ ended (standing v s n line) =
+      ap (after f) c ∙ after-append f x r ∙ rw (← g .feed) (line-after (standing v s n h) _ few p) in
+      let z : said f (take (e + 1) input) ≡ said f x ++ replyTo (standing v s n line) =
+      ap (said f) c ∙ said-append f x r ∙ rw (← g .feed) (ap (λ k. said f x ++ k) (line-said (standing v s n h) _ few p)) in
+      record { feed = ap₂ (λ (k : Session) m. standing v k m []) t j ∙ sym y; text = rw z (wrote-more (g .text) w); within = omega arith; room = λ k b u. still-room k (omega arith) u }
 
   -- A part of a line more, up to the end of the input: it is held.
-  pub going-part : (h₁ : List ℕ) → e ≤ length input → h₁ ≡ line → Going f input out e a (standing s n h₁) out₁
+  pub going-part : (h₁ : List ℕ) → e ≤ length input → h₁ ≡ line → Going f input out e a (standing v s n h₁) out₁
   going-part h₁ less t =
       let x = take i input in
       let r = take (e - i) (drop i input) in
       let p = rest-plain input i e q l in
       let c : take e input ≡ x ++ r = up-to input i e q l in
-      let y : after f (take e input) ≡ standing s n line = ap (after f) c ∙ after-append f x r ∙ rw (← g .feed) (plain-after (standing s n h) _ few p) in
+      let y : after f (take e input) ≡ standing v s n line = ap (after f) c ∙ after-append f x r ∙ rw (← g .feed) (plain-after (standing v s n h) _ few p) in
       let z : said f (take e input) ≡ said f x =
-      ap (said f) c ∙ said-append f x r ∙ rw (← g .feed) (ap (λ k. said f x ++ k) (plain-said (standing s n h) _ p) ∙ append-nil (said f x)) in
-      record { feed = ap (standing s n) t ∙ sym y; text = rw z (g .text); within = less; room = λ k b u. still-room k (omega arith) u }
+      ap (said f) c ∙ said-append f x r ∙ rw (← g .feed) (ap (λ k. said f x ++ k) (plain-said (standing v s n h) _ p) ∙ append-nil (said f x)) in
+      record { feed = ap (standing v s n) t ∙ sym y; text = rw z (g .text); within = less; room = λ k b u. still-room k (omega arith) u }
 
 -- The loop stops where room is missing, and at the end of the input.
 pub fed-full : (f : Feed) (input out out₁ : List ℕ) (i a : ℕ) (f₁ : Feed) → Going f input out i a f₁ out₁ → length out₁ ≡ length out → length out₁ - a < 600 → Starts input i

@@ -5,8 +5,8 @@ use mathlib.Core.Bool.{Bool}
 use mathlib.Core.List.{List}
 use native.Mathlib.Omega.{arith}
 use lib.ListN.{length}
-use Rattle.driver.specs.Feed.{Feed, said}
-use Rattle.driver.specs.Fed.{FedTo, FinishedTo, finished, full}
+use Rattle.feeds.specs.Feed.{Feed, said}
+use Rattle.feeds.specs.Fed.{FedTo, FinishedTo, finished, full}
 
 pub fed-within : (f : Feed) (input out : List ℕ) (used written : ℕ) (f' : Feed) (out' : List ℕ) → FedTo f input out used written f' out' → used ≤ length input
 fed-within f input out used written f' out' t = t .going .within

@@ -5,8 +5,8 @@ use mathlib.Core.Path.{_≡_}
 use native.Mathlib.Decide.{decLe}
 use native.Mathlib.Omega.{arith}
 use lib.ListN.{length}
-use Rattle.driver.specs.Feed.{Feed}
-use Rattle.driver.specs.Fed.{FedTo}
+use Rattle.feeds.specs.Feed.{Feed}
+use Rattle.feeds.specs.Fed.{FedTo}
 
 module _ (f : Feed) (input out : List ℕ) where
   -- where the one stopped the other had room, and went on

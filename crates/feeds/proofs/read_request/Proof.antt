@@ -1,8 +1,8 @@
--- `driver::read_request` meets its contract. Assumes nothing.
-use Rattle.driver.proofs.Stepped.{whole-read, whole-data, held-read, held-data}
+-- `feeds::read_request` meets its contract. Assumes nothing.
+use Rattle.feeds.proofs.Reading.{whole-read, whole-data, held-read, held-data}
 use borrow.Author.Needs.{needs}
-use Rattle.driver.proofs.read_request.Statement.{statement}
-use Rattle.driver.proofs.read_request.Tie as tie
+use Rattle.feeds.proofs.read_request.Statement.{statement}
+use Rattle.feeds.proofs.read_request.Tie as tie
 
 returns : tie.Need-returns
 returns c = (search whole-read, search whole-data)
