@@ -1,9 +1,9 @@
--- `session::put_text` meets its contract. Assumes nothing.
+-- `failures::put_text` meets its contract. Assumes nothing.
 use mathlib.Core.Path.{refl}
 use Rattle.lists.proofs.Bytes.{over-lent}
 use borrow.Author.Needs.{needs}
-use Rattle.session.proofs.put_text.Statement.{statement}
-use Rattle.session.proofs.put_text.Tie as tie
+use Rattle.failures.proofs.put_text.Statement.{statement}
+use Rattle.failures.proofs.put_text.Tie as tie
 
 returns : tie.Need-returns
 returns c = record { room = c .before .before .before .before .before .before .pre; place = refl; bytes = over-lent _ _ _ _ (c .before .before .put .ensures) }

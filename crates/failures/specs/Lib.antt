@@ -1,0 +1,2 @@
+-- What a program says of a failure.
+pub mod Message

@@ -1,2 +1,0 @@
--- What the program says of a failure.
-pub mod Message
