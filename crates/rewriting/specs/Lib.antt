@@ -1,0 +1,2 @@
+-- Where a rewriting stands.
+pub mod Fed
