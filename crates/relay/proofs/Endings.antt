@@ -1,23 +1,25 @@
--- How a session ends: at the end of the input, and at a read that failed. Assumes nothing.
+-- How the work ends: at the end of the input, and at a read that failed. Assumes nothing.
 use Prim.Native.Nat.{ℕ, _+_, _-_, _≤_, _<_}
 use mathlib.Core.Bool.{Bool, true, false}
-use mathlib.Core.List.{List, []}
+use mathlib.Core.List.{List, [], _∷_}
 use mathlib.Core.Path.{_≡_, refl, sym, ap, _∙_, subst}
 use native.Mathlib.Nat.{mod-eq-of-lt}
 use native.Mathlib.Omega.{arith}
 use lib.ListN.{length, take}
 use Rattle.descriptors.specs.declared.Got.{Got}
 use Rattle.descriptors.specs.declared.Got.the-variants as got
-use Rattle.feeds.specs.Feed.{Feed, after, said, lastWords, allSaid, newFeed}
+use Rattle.model.specs.Session.{newSession}
+use Rattle.feeds.specs.Feed.{Feed, after, said, lastWords, allSaid, newFeed, newRewriting}
 use Rattle.feeds.specs.Fed.{closing, FinishedTo, finished, full}
 use Rattle.feeds.proofs.Chain.{wrote-text}
 use Rattle.driver.specs.declared.Session.{Session}
 use Rattle.driver.specs.Fed.{feedOf, opened}
+use Rattle.works.specs.Fed.{feedBy}
 use Rattle.relay.specs.declared.Ending.{Ending}
 use Rattle.relay.specs.declared.How.{How}
 use Rattle.relay.specs.declared.How.the-variants.{Answered, ReadingFailed, WritingFailed}
 use Rattle.relay.specs.Spoken.{counted, repliedTo, Spoken}
-use Rattle.relay.specs.Ran.{Ran, answered, unread, unwritten, Stops, failed, interrupted, brought, RunTo, headed}
+use Rattle.relay.specs.Ran.{Ran, answered, unread, unwritten, Stops, failed, interrupted, brought, RunTo, headed, RewroteTo}
 
 -- no input
 none-counted : (n : ℕ) → n < 18446744073709551616 → n ≡ counted (n + 0)
@@ -89,3 +91,14 @@ pub run-headed : {s : Session} (held scratch : List ℕ) {how : How} {line taken
     → Ran (feedOf s held scratch) 0 0 how line taken written m → RunTo (newFeed scratch) how line taken written m
 run-headed held scratch {how} {line} {taken} {written} {m} e r =
     headed (subst (λ (k : Session). Ran (feedOf k held scratch) 0 0 how line taken written m) e r)
+
+-- lines written again, from the first on
+no-bytes : (m : List ℕ) → length m ≡ 0 → m ≡ []
+no-bytes [] e = refl
+no-bytes (b ∷ m) e = absurd (omega (arith, e))
+
+pub rewrite-from : {s : Session} (held : List ℕ) {how : How} {line taken written : ℕ} {m : List ℕ} → s ≡ opened → length m ≡ 0
+    → Ran (feedBy (record { rewrites = true; session = s }) held []) 0 0 how line taken written m → RewroteTo how line taken written
+rewrite-from held {how} {line} {taken} {written} {m} e z r =
+    subst (λ (k : List ℕ). Ran (newRewriting (newSession [])) 0 0 how line taken written k) (no-bytes m z)
+    (subst (λ (k : Session). Ran (feedBy (record { rewrites = true; session = k }) held []) 0 0 how line taken written m) e r)

@@ -20,14 +20,13 @@ use Rattle.relay.proofs.Spoken.{replied-join, sum-join}
 -- The session came from f to g over some input, while so many bytes were taken and written.
 pub record Came (f : Feed) (t₀ w₀ t w : ℕ) (g : Feed) : Type 0 where
   pub input : List ℕ
-  pub small : f .line < 18446744073709551616
   pub feed : g ≡ after f input
   pub taken : t ≡ counted (t₀ + length input)
   pub text : w ≡ counted (w₀ + length (said f input))
 
-pub came-start : (f : Feed) → f .line < 18446744073709551616 → Came f 0 0 0 0 f
+pub came-start : (f : Feed) → Came f 0 0 0 0 f
 unfolding after said
-came-start f l = record { input = []; small = l; feed = refl; taken = refl; text = refl }
+came-start f = record { input = []; feed = refl; taken = refl; text = refl }
 
 -- a piece that is lent as the first n bytes of the room
 pub part-taken : {r : ℕ} (t n : ℕ) (l : List ℕ) → r ≡ counted (t + n) → n ≤ length l → r ≡ counted (t + length (take (n - 0) l))
@@ -37,7 +36,7 @@ part-taken t n l e k =
 
 module _ {f g : Feed} {t₀ w₀ t w : ℕ} (c : Came f t₀ w₀ t w g) where
   lines : Numbered f (said f (c .input)) g
-  lines = subst (Numbered f (said f (c .input))) (sym (c .feed)) (numbered f (c .input) (c .small))
+  lines = subst (Numbered f (said f (c .input))) (sym (c .feed)) (numbered f (c .input))
 
   after-more : (y : List ℕ) → after g y ≡ after f (c .input ++ y)
   after-more y = ap (λ (k : Feed). after k y) (c .feed) ∙ sym (after-append f (c .input) y)
@@ -84,7 +83,6 @@ module _ {f g : Feed} {t₀ w₀ t w : ℕ} (c : Came f t₀ w₀ t w g) where
     came-more y =
         record {
           input = c .input ++ piece;
-          small = c .small;
           feed = p .feed y ∙ after-more piece;
           taken = taken-more piece a;
           text = text-more (said g piece) _ (said-more piece) (p .text .sum ∙ ap (λ (k : ℕ). counted (w + k)) (p .text .whole y));

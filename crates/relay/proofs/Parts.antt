@@ -37,15 +37,14 @@ rest-lent l p = take-all (length l - p) (drop p l) (simp length-drop (omega arit
 
 -- The first `from` bytes of the piece have been fed, and the replies to them written.
 pub record Parts (f : Feed) (piece : List ℕ) (before from w : ℕ) (g : Feed) : Type 0 where
-  pub small : f .line < 18446744073709551616
   pub within : from ≤ length piece
   pub feed : g ≡ after f (take from piece)
   pub sum : w ≡ counted (before + length (said f (take from piece)))
 
-pub parts-start : (f : Feed) (piece : List ℕ) (before : ℕ) → f .line < 18446744073709551616 → before < 18446744073709551616 → Parts f piece before 0 before f
+pub parts-start : (f : Feed) (piece : List ℕ) (before : ℕ) → before < 18446744073709551616 → Parts f piece before 0 before f
 unfolding after said
-parts-start f piece before l k =
-    record { small = l; within = omega arith; feed = refl; sum = sym (ap counted (omega arith) ∙ mod-eq-of-lt k) }
+parts-start f piece before k =
+    record { within = omega arith; feed = refl; sum = sym (ap counted (omega arith) ∙ mod-eq-of-lt k) }
 
 module _ {f g h : Feed} {piece rest : List ℕ} {before from w used : ℕ} {s : Said} (p : Parts f piece before from w g) (q : rest ≡ drop from piece)
     (t : PartTo g rest w used s h) where
@@ -62,7 +61,6 @@ module _ {f g h : Feed} {piece rest : List ℕ} {before from w used : ℕ} {s : 
       let n : length (said f (take from piece)) + t .text .count ≡ length (said f (take (from + used) piece)) =
       ap (λ (k : ℕ). length (said f (take from piece)) + k) (t .text .whole y) ∙ sym (ap length said-more ∙ simp length-append) in
       record {
-        small = p .small;
         within = omega (arith, t .within, p .within, ap length q ∙ length-drop from piece);
         feed = t .feed ∙ (ap (λ (k : Feed). after k (take used rest)) (p .feed) ∙ (sym (after-append f (take from piece) (take used rest)) ∙ ap (after f) (sym more)));
         sum = t .text .sum ∙ (sum-join before w (length (said f (take from piece))) (t .text .count) (p .sum) ∙ ap (λ (k : ℕ). counted (before + k)) n);
@@ -80,7 +78,7 @@ module _ {f g h : Feed} {piece rest : List ℕ} {before from w used : ℕ} {s : 
 
   pub parts-fail : s .failed ≡ true → PieceTo f piece before s h
   parts-fail y =
-      let n : Numbered f (said f (take from piece)) g = subst (Numbered f (said f (take from piece))) (sym (p .feed)) (numbered f (take from piece) (p .small)) in
+      let n : Numbered f (said f (take from piece)) g = subst (Numbered f (said f (take from piece))) (sym (p .feed)) (numbered f (take from piece)) in
       let x : Spoken (said g (take used rest)) (g .line) w true (s .line) (s .written) =
       subst (λ (b : Bool). Spoken (said g (take used rest)) (g .line) w b (s .line) (s .written)) y (t .text) in
       let z : Spoken (said f piece) (f .line) before true (s .line) (s .written) =

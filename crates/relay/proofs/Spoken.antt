@@ -41,9 +41,10 @@ flat line text = mod-add-mod (line + 18446744073709551615) 18446744073709551616 
 pub replied-join : {f g : Feed} {x : List ℕ} (y : List ℕ) → Numbered f x g → repliedTo (g .line) y ≡ repliedTo (f .line) (x ++ y)
 replied-join {f} {g} {x} y n =
     flat (g .line) y
+    ∙ (sym (mod-add-mod (g .line) 18446744073709551616 (18446744073709551615 + newlines y))
     ∙ (ap (λ (k : ℕ). counted (k + (18446744073709551615 + newlines y))) (n .line)
     ∙ (mod-add-mod (f .line + newlines x) 18446744073709551616 (18446744073709551615 + newlines y)
-    ∙ (ap counted (omega (arith, newlines-append x y)) ∙ sym (flat (f .line) (x ++ y)))))
+    ∙ (ap counted (omega (arith, newlines-append x y)) ∙ sym (flat (f .line) (x ++ y))))))
 
 pub sum-join : (before middle x y : ℕ) → middle ≡ counted (before + x) → counted (middle + y) ≡ counted (before + (x + y))
 sum-join before middle x y m = ap (λ (k : ℕ). counted (k + y)) m ∙ mod-add-mod (before + x) 18446744073709551616 y ∙ ap counted (omega arith)

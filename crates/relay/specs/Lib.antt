@@ -1,3 +1,3 @@
--- What became of a session from one descriptor to another.
+-- What became of work on lines from one descriptor to another.
 pub mod Spoken
 pub mod Ran

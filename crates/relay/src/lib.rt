@@ -1,25 +1,26 @@
-// A session from one descriptor to another. What is decided between two calls of the system has a promise, and so has the whole:
-// which bytes were read and written no promise can say, but how many, and that the session went over all of them.
+// Work on lines from one descriptor to another: a session, or lines written again. What is decided between two calls of the system
+// has a promise, and so has the whole: which bytes were read and written no promise can say, but how many, and that the work went
+// over all of them.
 ghost use Prim.Native.Nat.{_≤_};
 ghost use mathlib.Core.List.{[]};
 ghost use mathlib.Core.Path.{_≡_};
 ghost use lib.ListN.{length};
 ghost use Rattle.feeds.specs.Feed.{newFeed};
-ghost use Rattle.driver.specs.Fed.{feedOf};
+ghost use Rattle.works.specs.Fed.{feedBy};
 ghost use Rattle.relay.specs.Spoken.{repliedTo, Spoken};
-ghost use Rattle.relay.specs.Ran.{PartTo, PieceTo, Ran, Stops, RunTo};
+ghost use Rattle.relay.specs.Ran.{PartTo, PieceTo, Ran, Stops, RunTo, RewroteTo};
 use descriptors::Got;
-use driver::Session;
+use works::Work;
 
-// How a session ended: the whole input was answered, or a read or a write failed with the error of that number.
+// How the work ended: it was done to the end of the input, or a read or a write failed with the error of that number.
 pub enum How {
     Answered,
     ReadingFailed { error: u32 },
     WritingFailed { error: u32 },
 }
 
-// `line` is the last line whose reply was written whole. `taken` counts the bytes read, and `written` those written after the
-// header.
+// `line` is the last line whose reply was written whole; where lines are written again it is the last of those. `taken` counts the
+// bytes read, and `written` those written after the header.
 pub struct Ending {
     pub how: How,
     pub line: u64,
@@ -37,13 +38,13 @@ struct Said {
 }
 
 struct Part {
-    session: Session,
+    work: Work,
     used: usize,
     said: Said,
 }
 
 struct Piece {
-    session: Session,
+    work: Work,
     said: Said,
 }
 
@@ -81,7 +82,7 @@ fn say(to: i32, text: &[u8], line: u64, written: u64) -> Said
 // One feed, and the replies to it.
 fn answer_part(
     to: i32,
-    session: Session,
+    work: Work,
     held: &mut [u8; 601],
     scratch: &mut [u8],
     input: &[u8],
@@ -89,15 +90,16 @@ fn answer_part(
     written: u64,
 ) -> Part
     requires { ⌜ 600 ≤ length (now out) ⌝ }
-    ensures { λ r. ⌜ PartTo (feedOf session (now (held .entry)) (now (scratch .entry))) (now (input .entry)) written (r .used) (r .said) (feedOf (r .session) (now (held .exit)) (now (scratch .exit))) ⌝ }
+    ensures { λ r. ⌜ PartTo (feedBy work (now (held .entry)) (now (scratch .entry))) (now (input .entry)) written (r .used) (r .said) (feedBy (r .work) (now (held .exit)) (now (scratch .exit))) ⌝ }
 {
+    let session = work.session;
     let line = session.line;
-    let fed = driver::feed(session, held, scratch, input, out);
+    let fed = works::feed(work, held, scratch, input, out);
     let n = fed.written;
-    let after = fed.session;
+    let after = fed.work;
     let said = say(to, &out[0..n], line, written);
     Part {
-        session: after,
+        work: after,
         used: fed.used,
         said: said,
     }
@@ -106,7 +108,7 @@ fn answer_part(
 // The bytes of one read: they are fed, and the replies written, as often as the replies fill the room for them.
 fn answer_piece(
     to: i32,
-    session: Session,
+    work: Work,
     held: &mut [u8; 601],
     scratch: &mut [u8],
     input: &[u8],
@@ -114,18 +116,18 @@ fn answer_piece(
     written: u64,
 ) -> Piece
     requires { ⌜ 600 ≤ length (now out) ⌝ }
-    ensures { λ r. ⌜ PieceTo (feedOf session (now (held .entry)) (now (scratch .entry))) (now (input .entry)) written (r .said) (feedOf (r .session) (now (held .exit)) (now (scratch .exit))) ⌝ }
+    ensures { λ r. ⌜ PieceTo (feedBy work (now (held .entry)) (now (scratch .entry))) (now (input .entry)) written (r .said) (feedBy (r .work) (now (held .exit)) (now (scratch .exit))) ⌝ }
 {
-    let mut s = session;
+    let mut doing = work;
     let mut w = written;
     let mut from: usize = 0;
     while from < input.len() {
-        let part = answer_part(to, s, held, scratch, &input[from..], out, w);
+        let part = answer_part(to, doing, held, scratch, &input[from..], out, w);
         let said = part.said;
-        s = part.session;
+        doing = part.work;
         if said.failed {
             return Piece {
-                session: s,
+                work: doing,
                 said: said,
             };
         }
@@ -133,7 +135,7 @@ fn answer_piece(
         from += part.used;
     }
     Piece {
-        session: s,
+        work: doing,
         said: Said {
             failed: false,
             error: 0,
@@ -146,7 +148,7 @@ fn answer_piece(
 // The end of the input: a last line without a newline is answered.
 fn answer_end(
     to: i32,
-    session: Session,
+    work: Work,
     held: &[u8; 601],
     scratch: &mut [u8],
     out: &mut [u8],
@@ -154,12 +156,12 @@ fn answer_end(
     written: u64,
 ) -> Ending
     requires { ⌜ 600 ≤ length (now out) ⌝ }
-    ensures { λ r. ⌜ Ran (feedOf session (now (held .entry)) (now (scratch .entry))) taken written (r .how) (r .line) (r .taken) (r .written) (now (scratch .exit)) ⌝ }
+    ensures { λ r. ⌜ Ran (feedBy work (now (held .entry)) (now (scratch .entry))) taken written (r .how) (r .line) (r .taken) (r .written) (now (scratch .exit)) ⌝ }
     ensures { λ r. ⌜ Stops Got.End (r .how) ⌝ }
 {
+    let session = work.session;
     let line = session.line;
-    let last = driver::finish(session, held, scratch, out);
-    let n = last.written;
+    let n = works::finish(work, held, scratch, out);
     let said = say(to, &out[0..n], line, written);
     if said.failed {
         return Ending {
@@ -193,7 +195,7 @@ fn leave(error: u32, line: u64, taken: u64, written: u64) -> Ending
 fn answer_stop(
     to: i32,
     got: Got,
-    session: Session,
+    work: Work,
     held: &[u8; 601],
     scratch: &mut [u8],
     out: &mut [u8],
@@ -201,14 +203,16 @@ fn answer_stop(
     written: u64,
 ) -> Ending
     requires { ⌜ 600 ≤ length (now out) ⌝ }
-    ensures { λ r. ⌜ Ran (feedOf session (now (held .entry)) (now (scratch .entry))) taken written (r .how) (r .line) (r .taken) (r .written) (now (scratch .exit)) ⌝ }
+    ensures { λ r. ⌜ Ran (feedBy work (now (held .entry)) (now (scratch .entry))) taken written (r .how) (r .line) (r .taken) (r .written) (now (scratch .exit)) ⌝ }
     ensures { λ r. ⌜ Stops got (r .how) ⌝ }
 {
+    let session = work.session;
+    let line = session.line;
     match got {
-        Got::End => answer_end(to, session, held, scratch, out, taken, written),
-        Got::Failed { error } => leave(error, session.line, taken, written),
-        Got::Interrupted => leave(4, session.line, taken, written),
-        Got::Bytes { count: _ } => leave(0, session.line, taken, written),
+        Got::End => answer_end(to, work, held, scratch, out, taken, written),
+        Got::Failed { error } => leave(error, line, taken, written),
+        Got::Interrupted => leave(4, line, taken, written),
+        Got::Bytes { count: _ } => leave(0, line, taken, written),
     }
 }
 
@@ -216,25 +220,25 @@ fn answer_stop(
 fn answer_input(
     from: i32,
     to: i32,
-    session: Session,
+    work: Work,
     held: &mut [u8; 601],
     scratch: &mut [u8],
     input: &mut [u8],
     out: &mut [u8],
 ) -> Ending
     requires { ⌜ 600 ≤ length (now out) ⌝ }
-    ensures { λ r. ⌜ Ran (feedOf session (now (held .entry)) (now (scratch .entry))) 0 0 (r .how) (r .line) (r .taken) (r .written) (now (scratch .exit)) ⌝ }
+    ensures { λ r. ⌜ Ran (feedBy work (now (held .entry)) (now (scratch .entry))) 0 0 (r .how) (r .line) (r .taken) (r .written) (now (scratch .exit)) ⌝ }
 {
-    let mut s = session;
+    let mut doing = work;
     let mut taken = 0u64;
     let mut w = 0u64;
     let mut reads = u64::MAX;
     while reads > 0 {
         let got = descriptors::read_some(from, input);
         let Got::Bytes { count } = got else {
-            return answer_stop(to, got, s, held, scratch, out, taken, w);
+            return answer_stop(to, got, doing, held, scratch, out, taken, w);
         };
-        let piece = answer_piece(to, s, held, scratch, &input[0..count], out, w);
+        let piece = answer_piece(to, doing, held, scratch, &input[0..count], out, w);
         taken = std::num::wrapping_add_u64(taken, count as u64);
         let said = piece.said;
         if said.failed {
@@ -245,11 +249,11 @@ fn answer_input(
                 written: said.written,
             };
         }
-        s = piece.session;
+        doing = piece.work;
         w = said.written;
         reads -= 1;
     }
-    answer_stop(to, Got::Interrupted, s, held, scratch, out, taken, w)
+    answer_stop(to, Got::Interrupted, doing, held, scratch, out, taken, w)
 }
 
 // A whole session: a header and the replies go to `to`, for the requests that come from `from`. One read brings at most as many
@@ -269,5 +273,24 @@ pub fn run(from: i32, to: i32, scratch: &mut [u8; 32768], room: &mut [u8]) -> En
             written: 0,
         };
     }
-    answer_input(from, to, driver::open(), &mut held, scratch, room, &mut out)
+    let work = Work {
+        rewrites: false,
+        session: driver::open(),
+    };
+    answer_input(from, to, work, &mut held, scratch, room, &mut out)
+}
+
+// Lines written again: of those that come from `from`, every one that the reader takes goes to `to` as the writer writes it. There
+// is no header.
+pub fn rewrite(from: i32, to: i32, room: &mut [u8]) -> Ending
+    ensures { λ r. ⌜ RewroteTo (r .how) (r .line) (r .taken) (r .written) ⌝ }
+{
+    let mut held = [0u8; 601];
+    let mut scratch = [0u8; 0];
+    let mut out = io::large_buffer();
+    let work = Work {
+        rewrites: true,
+        session: driver::open(),
+    };
+    answer_input(from, to, work, &mut held, &mut scratch, room, &mut out)
 }

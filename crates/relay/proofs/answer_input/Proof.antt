@@ -4,22 +4,22 @@ use mathlib.Core.Path.{_≡_, _∙_}
 use native.Mathlib.Omega.{arith}
 use borrow.Author.Needs.{needs}
 use lib.ListN.{length}
-use Rattle.driver.specs.Fed.{feedOf}
+use Rattle.works.specs.Fed.{feedBy}
 use Rattle.descriptors.proofs.Came.{got-count}
 use Rattle.relay.proofs.Joined.{Came, came-start, came-more, came-fail, came-stop, part-taken}
 use Rattle.relay.proofs.answer_input.Statement.{statement}
 use Rattle.relay.proofs.answer_input.Tie as tie
 
 abbrev Inv-loop : tie.InvT-loop
-Inv-loop from to held₀ scratch₀ input₀ out₀ s₀ taken₀ w₀ reads₀ held scratch input out s taken w reads =
+Inv-loop from to held₀ scratch₀ input₀ out₀ doing₀ taken₀ w₀ reads₀ held scratch input out doing taken w reads =
     (600 ≤ length out₀) × (length out ≡ length out₀) × (length scratch ≡ length scratch₀) × (length input ≡ length input₀)
-    × (Came (feedOf s₀ held₀ scratch₀) 0 0 taken w (feedOf s held scratch))
+    × (Came (feedBy doing₀ held₀ scratch₀) 0 0 taken w (feedBy doing held scratch))
 
 abbrev μ-loop : tie.MeasureT-loop
-μ-loop from to held₀ scratch₀ input₀ out₀ s₀ taken₀ w₀ reads₀ held scratch input out s taken w reads = reads
+μ-loop from to held₀ scratch₀ input₀ out₀ doing₀ taken₀ w₀ reads₀ held scratch input out doing taken w reads = reads
 
 loop-holds : tie.Need-loop-holds Inv-loop μ-loop
-loop-holds c = (search needs, search needs, search needs, search needs, came-start _ (search needs))
+loop-holds c = (search needs, search needs, search needs, search needs, came-start _)
 
 returns : tie.Need-returns Inv-loop μ-loop
 returns c = came-stop (c .before .before .before .before .before .before .before .before .before .before .before .before .before .before .loop .inv .4) (c .before .before .before .before .answer-stop .ensures .0)

@@ -5,20 +5,20 @@ use mathlib.Core.Path.{_≡_, refl}
 use native.Mathlib.Omega.{arith}
 use borrow.Author.Needs.{needs}
 use lib.ListN.{length}
-use Rattle.driver.specs.Fed.{feedOf}
+use Rattle.works.specs.Fed.{feedBy}
 use Rattle.relay.proofs.Parts.{Parts, parts-start, parts-more, parts-fail, parts-all, rest-lent}
 use Rattle.relay.proofs.answer_piece.Statement.{statement}
 use Rattle.relay.proofs.answer_piece.Tie as tie
 
 abbrev Inv-loop : tie.InvT-loop
-Inv-loop to held₀ scratch₀ input out₀ written s₀ w₀ from₀ held scratch out s w from =
-    (600 ≤ length out₀) × (length out ≡ length out₀) × (length scratch ≡ length scratch₀) × (length input < 18446744073709551616) × (Parts (feedOf s₀ held₀ scratch₀) input written from w (feedOf s held scratch))
+Inv-loop to held₀ scratch₀ input out₀ written doing₀ w₀ from₀ held scratch out doing w from =
+    (600 ≤ length out₀) × (length out ≡ length out₀) × (length scratch ≡ length scratch₀) × (length input < 18446744073709551616) × (Parts (feedBy doing₀ held₀ scratch₀) input written from w (feedBy doing held scratch))
 
 abbrev μ-loop : tie.MeasureT-loop
-μ-loop to held₀ scratch₀ input out₀ written s₀ w₀ from₀ held scratch out s w from = length input - from
+μ-loop to held₀ scratch₀ input out₀ written doing₀ w₀ from₀ held scratch out doing w from = length input - from
 
 loop-holds : tie.Need-loop-holds Inv-loop μ-loop
-loop-holds c = (search needs, search needs, search needs, search needs, parts-start _ _ _ (search needs) (search needs))
+loop-holds c = (search needs, search needs, search needs, search needs, parts-start _ _ _ (search needs))
 
 returns : tie.Need-returns Inv-loop μ-loop
 returns c =

@@ -1,0 +1,2 @@
+-- The laws of where the work stands.
+pub mod Standing

@@ -1,0 +1,2 @@
+-- Where the work on lines stands, whichever it is.
+pub mod Fed
