@@ -2,12 +2,11 @@
 use Prim.Native.Nat.{ℕ, _≤_}
 use mathlib.Core.Bool.{Bool, true, false}
 use mathlib.Core.List.{List}
-use mathlib.Core.Path.{_≡_, sym, ap, subst, _∙_}
+use mathlib.Core.Path.{_≡_, sym, ap, subst}
 use native.Mathlib.Omega.{arith}
 use lib.ListN.{length, take}
 use Rattle.feeds.specs.Feed as feeds
 use Rattle.feeds.specs.Fed.{FedTo, FinishedTo, finished, full}
-use Rattle.driver.specs.declared.Session.{Session}
 use Rattle.driver.specs.Fed as driver
 use Rattle.rewriting.specs.declared.Rewriting.{Rewriting}
 use Rattle.rewriting.specs.Fed as rewriting
