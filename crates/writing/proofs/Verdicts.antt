@@ -17,8 +17,8 @@ use Rattle.model.specs.Lines.{FieldKind, calls, formAt}
 use Rattle.model.specs.Parts.{partsOf}
 use Rattle.model.specs.Written.{fieldText, fieldTexts, tabbed, written, takesField, takesFields, takes, fits, writeAnswer, bufferAfter}
 use Rattle.digits.specs.Wrote.{Wrote}
-use Rattle.writing.specs.declared.Parts.{Parts}
-use Rattle.writing.specs.Apart.{Apart}
+use Rattle.parting.specs.declared.Parts.{Parts}
+use Rattle.parting.specs.Apart.{Apart}
 
 -- values behind those of the form's fields change nothing
 takes-first : (ks : List FieldKind) (vs d : List ℕ) → takesFields ks (take (length ks) vs) d ≡ takesFields ks vs d

@@ -3,7 +3,7 @@ use mathlib.Core.Path.{_≡_}
 use lib.ListN.{length, take}
 use Rattle.model.specs.Lines.{formAt}
 use Rattle.model.specs.Parts as model
-use Rattle.writing.specs.declared.Parts.{Parts}
+use Rattle.parting.specs.declared.Parts.{Parts}
 
 pub record Apart (r : Parts) (p : model.Parts) : Type 0 where
   pub form : r .form ≡ p .form

@@ -6,8 +6,8 @@ use Rattle.model.specs.declared.Operation.{Operation}
 use Rattle.model.specs.declared.Request.{Request}
 use Rattle.model.specs.Lines.{formAt}
 use Rattle.model.specs.Parts.{callParts, partsOf}
-use Rattle.writing.specs.declared.Parts.{Parts}
-use Rattle.writing.specs.Apart.{Apart}
+use Rattle.parting.specs.declared.Parts.{Parts}
+use Rattle.parting.specs.Apart.{Apart}
 
 pub call-told : {r : Parts} (o k : Operation) (g n : ℕ) → o ≡ k → Apart r (callParts g k n) → Apart r (callParts g o n)
 call-told {r} o k g n e a = subst (λ (x : Operation). Apart r (callParts g x n)) (sym e) a

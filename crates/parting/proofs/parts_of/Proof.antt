@@ -1,11 +1,11 @@
--- `writing::parts_of` meets its contract.
+-- `parting::parts_of` meets its contract.
 use mathlib.Core.Path.{refl}
 use borrow.Author.Needs.{needs}
 use Rattle.model.specs.Lines.{forms}
 use Rattle.model.specs.Parts.{partsOf}
-use Rattle.writing.proofs.Parting.{request-told}
-use Rattle.writing.proofs.parts_of.Statement.{statement}
-use Rattle.writing.proofs.parts_of.Tie as tie
+use Rattle.parting.proofs.Parting.{request-told}
+use Rattle.parting.proofs.parts_of.Statement.{statement}
+use Rattle.parting.proofs.parts_of.Tie as tie
 
 returns : tie.Need-returns
 unfolding partsOf forms

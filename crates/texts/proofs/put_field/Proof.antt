@@ -1,8 +1,8 @@
--- `writing::put_field` meets its contract.
+-- `texts::put_field` meets its contract.
 use borrow.Author.Needs.{needs}
-use Rattle.writing.proofs.ByKind.{room-name, room-number, room-right, data-lent, room-data, text-data, text-name, text-number, text-right}
-use Rattle.writing.proofs.put_field.Statement.{statement}
-use Rattle.writing.proofs.put_field.Tie as tie
+use Rattle.texts.proofs.ByKind.{room-name, room-number, room-right, data-lent, room-data, text-data, text-name, text-number, text-right}
+use Rattle.texts.proofs.put_field.Statement.{statement}
+use Rattle.texts.proofs.put_field.Tie as tie
 
 part-put-hex-end : tie.Need-part-put-hex-end
 part-put-hex-end c = search data-lent

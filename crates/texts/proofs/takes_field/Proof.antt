@@ -1,8 +1,8 @@
--- `writing::takes_field` meets its contract.
+-- `texts::takes_field` meets its contract.
 use borrow.Author.Needs.{needs}
-use Rattle.writing.proofs.ByKind.{takes-long, takes-data, takes-named, takes-other}
-use Rattle.writing.proofs.takes_field.Statement.{statement}
-use Rattle.writing.proofs.takes_field.Tie as tie
+use Rattle.texts.proofs.ByKind.{takes-long, takes-data, takes-named, takes-other}
+use Rattle.texts.proofs.takes_field.Statement.{statement}
+use Rattle.texts.proofs.takes_field.Tie as tie
 
 returns : tie.Need-returns
 returns c = search takes-long

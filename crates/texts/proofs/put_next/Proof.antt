@@ -1,8 +1,8 @@
--- `writing::put_next` meets its contract.
+-- `texts::put_next` meets its contract.
 use borrow.Author.Needs.{needs}
 use Rattle.digits.proofs.Writing.{wrote-more}
-use Rattle.writing.proofs.put_next.Statement.{statement}
-use Rattle.writing.proofs.put_next.Tie as tie
+use Rattle.texts.proofs.put_next.Statement.{statement}
+use Rattle.texts.proofs.put_next.Tie as tie
 
 returns : tie.Need-returns
 returns c = wrote-more (c .before .before .before .before .before .before .put-byte .ensures) (c .before .before .put-field .ensures)

@@ -1,9 +1,9 @@
--- `writing::right_number` meets its contract.
+-- `parting::right_number` meets its contract.
 use mathlib.Core.Path.{sym, ap}
 use borrow.Author.Needs.{needs}
 use Rattle.model.specs.Parts.{rightNumber}
-use Rattle.writing.proofs.right_number.Statement.{statement}
-use Rattle.writing.proofs.right_number.Tie as tie
+use Rattle.parting.proofs.right_number.Statement.{statement}
+use Rattle.parting.proofs.right_number.Tie as tie
 
 returns : tie.Need-returns
 unfolding rightNumber

@@ -1,7 +1,7 @@
--- `writing::right_letter` meets its contract.
-use Rattle.writing.proofs.ByKind.{letter-read, letter-write}
-use Rattle.writing.proofs.right_letter.Statement.{statement}
-use Rattle.writing.proofs.right_letter.Tie as tie
+-- `texts::right_letter` meets its contract.
+use Rattle.texts.proofs.ByKind.{letter-read, letter-write}
+use Rattle.texts.proofs.right_letter.Statement.{statement}
+use Rattle.texts.proofs.right_letter.Tie as tie
 
 returns : tie.Need-returns
 returns c = search letter-read

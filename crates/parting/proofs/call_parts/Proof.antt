@@ -1,11 +1,11 @@
--- `writing::call_parts` meets its contract.
+-- `parting::call_parts` meets its contract.
 use mathlib.Core.Path.{refl}
 use borrow.Author.Needs.{needs}
 use Rattle.model.specs.Lines.{forms}
 use Rattle.model.specs.Parts.{callParts}
-use Rattle.writing.proofs.Parting.{call-told}
-use Rattle.writing.proofs.call_parts.Statement.{statement}
-use Rattle.writing.proofs.call_parts.Tie as tie
+use Rattle.parting.proofs.Parting.{call-told}
+use Rattle.parting.proofs.call_parts.Statement.{statement}
+use Rattle.parting.proofs.call_parts.Tie as tie
 
 returns : tie.Need-returns
 unfolding callParts forms

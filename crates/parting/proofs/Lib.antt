@@ -1,0 +1,2 @@
+-- Laws of requests taken apart.
+pub mod Parting

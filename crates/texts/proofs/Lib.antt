@@ -1,0 +1,2 @@
+-- Laws of fields by the number of their kind.
+pub mod ByKind
