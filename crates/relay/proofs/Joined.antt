@@ -17,7 +17,7 @@ use Rattle.relay.specs.Ran.{PieceTo, Ran, answered, unread, unwritten}
 use Rattle.relay.proofs.Lines.{Numbered, numbered}
 use Rattle.relay.proofs.Spoken.{replied-join, sum-join}
 
--- The session came from f to g over some input, while so many bytes were taken and written.
+-- The work came from f to g over some input, while so many bytes were taken and written.
 pub record Came (f : Feed) (t₀ w₀ t w : ℕ) (g : Feed) : Type 0 where
   pub input : List ℕ
   pub feed : g ≡ after f input

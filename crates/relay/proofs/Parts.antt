@@ -66,7 +66,7 @@ module _ {f g h : Feed} {piece rest : List ℕ} {before from w used : ℕ} {s : 
         sum = t .text .sum ∙ (sum-join before w (length (said f (take from piece))) (t .text .count) (p .sum) ∙ ap (λ (k : ℕ). counted (before + k)) n);
       }
 
-  -- what the session says to the rest is not written
+  -- what is said to the rest is not written
   abbrev unsaid : List ℕ
   unsaid = said (after f (take (from + used) piece)) (drop (from + used) piece)
 
