@@ -1,9 +1,9 @@
-// A session from a file to a file, by the loop that the session program uses, in reads of 4,096 bytes.
+// From a file to a file, by the loop that the programs use, in reads of 4,096 bytes: a session, and lines written again.
 use relay::Ending;
 use relay::How;
 
-// All of the input was read and answered, and so many bytes were written; a header has 18.
-fn is_whole(end: Ending, size: usize, said: usize) -> bool {
+// All of the input was read, and after a header of so many bytes so many were written in all.
+fn is_whole(end: Ending, size: usize, header: u64, said: usize) -> bool {
     let how = end.how;
     let How::Answered = how else {
         return false;
@@ -11,7 +11,7 @@ fn is_whole(end: Ending, size: usize, said: usize) -> bool {
     if end.taken != size as u64 {
         return false;
     }
-    std::num::wrapping_add_u64(end.written, 18) == said as u64
+    std::num::wrapping_add_u64(end.written, header) == said as u64
 }
 
 fn holds(path: &[u8], want: &[u8]) -> bool {
@@ -39,8 +39,28 @@ pub(crate) fn is_same(path: &[u8], size: usize, want: &[u8]) -> bool {
     let end = relay::run(from, to, &mut scratch, &mut room);
     libc::close(from);
     libc::close(to);
-    if !is_whole(end, size, want.len()) {
+    if !is_whole(end, size, 18, want.len()) {
         return false;
     }
     holds(b"replies", want)
+}
+
+// Whether the lines of a file, written again, are the wanted ones.
+pub(crate) fn is_rewritten(path: &[u8], size: usize, want: &[u8]) -> bool {
+    let from = os::open_read(path);
+    if from < 0 {
+        return false;
+    }
+    let to = os::open_overwrite(b"again");
+    if to < 0 {
+        return false;
+    }
+    let mut room = io::buffer();
+    let end = relay::rewrite(from, to, &mut room);
+    libc::close(from);
+    libc::close(to);
+    if !is_whole(end, size, 0, want.len()) {
+        return false;
+    }
+    holds(b"again", want)
 }

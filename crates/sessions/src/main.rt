@@ -1,7 +1,8 @@
 // Runs the session files that its arguments name. Of each it prints the name and the whole output of the session; then it runs
 // the file again in other pieces, with less room for replies, and from the file to another file, and says whether the output was
-// the same.
+// the same. Last it has the file's lines written again, and says whether the good ones came back as they are, and how many.
 mod files;
+mod good;
 mod runs;
 
 ghost use Prim.Native.Nat.{_≤_};
@@ -60,11 +61,27 @@ fn compare_files(path: &[u8], input: &[u8], want: &[u8]) {
     say(b"same from file to file\n");
 }
 
+fn compare_lines(path: &[u8], size: usize, want: &[u8]) {
+    if !files::is_rewritten(path, size, want) {
+        say(b"DIFFER, the good lines written again\n");
+        return;
+    }
+    say_number(descriptors::newlines_in(want));
+    say(b" good lines, the same written again\n");
+}
+
+fn compare_again(path: &[u8], input: &[u8]) {
+    let mut text = io::large_buffer();
+    let n = good::good_lines(input, &mut text);
+    compare_lines(path, input.len(), &text[0..n]);
+}
+
 fn compare(path: &[u8], input: &[u8], want: &[u8]) {
     compare_cuts(input, want);
     compare_bytes(input, want);
     compare_rooms(input, want);
     compare_files(path, input, want);
+    compare_again(path, input);
 }
 
 // The text of the session is the first `n` bytes.

@@ -10,7 +10,7 @@ struct Run {
 }
 
 // The part goes behind the text said so far. Where there is no place for it, the text counts as full.
-fn append(text: &mut [u8], at: usize, part: &[u8]) -> usize
+pub(crate) fn append(text: &mut [u8], at: usize, part: &[u8]) -> usize
     requires { ⌜ at ≤ length (now text) ⌝ }
     ensures { λ r. ⌜ r ≤ length (now (text .entry)) ⌝ }
 {
