@@ -19,3 +19,5 @@ pub mod LineRead
 pub mod WritesBack
 pub mod Refused
 pub mod GoodLines
+-- Lines written, computed
+pub mod Examples
