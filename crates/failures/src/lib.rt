@@ -4,6 +4,8 @@ ghost use Prim.Native.Nat.{_+_, _≤_};
 ghost use lib.ListN.{length};
 ghost use Rattle.digits.specs.Wrote.{Wrote};
 ghost use Rattle.failures.specs.Message.{kindText, failureText, placeText, messageText};
+use relay::Ending;
+use relay::How;
 
 fn put_text(out: &mut [u8], at: usize, text: &[u8]) -> usize
     requires { ⌜ at + length (now text) ≤ length (now out) ⌝ }
@@ -68,10 +70,22 @@ fn put_message(
 }
 
 // One line on standard error.
-pub fn complain(name: &[u8], first: &[u8], last: &[u8], reading: bool, error: u32, line: u64)
+fn complain(name: &[u8], first: &[u8], last: &[u8], reading: bool, error: u32, line: u64)
     requires { ⌜ (length (now name) + length (now first) ≤ 50) × (length (now name) + length (now last) ≤ 50) ⌝ }
 {
     let mut text = [0u8; 128];
     let n = put_message(&mut text, name, first, last, reading, error, line);
     descriptors::send(libc::STDERR_FILENO, &text[0..n]);
+}
+
+// How the work ended, where that was not the end of the input.
+pub fn tell(end: Ending, name: &[u8], first: &[u8], last: &[u8])
+    requires { ⌜ (length (now name) + length (now first) ≤ 50) × (length (now name) + length (now last) ≤ 50) ⌝ }
+{
+    let how = end.how;
+    match how {
+        How::Answered => {}
+        How::ReadingFailed { error } => complain(name, first, last, true, error, end.line),
+        How::WritingFailed { error } => complain(name, first, last, false, error, end.line),
+    }
 }
