@@ -21,7 +21,8 @@ use Rattle.ready.specs.Usable.{usable}
 use Rattle.turns.specs.declared.Here.{Here}
 use Rattle.turns.specs.declared.Changed.{Changed}
 use Rattle.turns.specs.declared.Outcome.{Outcome}
-use Rattle.turns.specs.Taken.{sessionOf, dataIn, Prepared, Taken, Waiting, hostAfter, ChangedTo}
+use Rattle.model.specs.Parts.{dataIn}
+use Rattle.turns.specs.Taken.{sessionOf, Prepared, Taken, Waiting, hostAfter, ChangedTo}
 use Rattle.turns.specs.Told.{Sees, Seeing, hostOf, AnsweredBy, WithEdit, WithClosing, Unanswered, AnsweredTo}
 use Rattle.turns.proofs.Filled.{prepared-long}
 use Rattle.edits.specs.declared.Edit.{Edit}

@@ -25,7 +25,8 @@ use Rattle.model.proofs.Classes.{unmoving-at}
 use Rattle.model.proofs.Operation as operation-cases
 use Rattle.digits.specs.Wrote.{Wrote}
 use Rattle.turns.specs.declared.Outcome.{Outcome}
-use Rattle.turns.specs.Taken.{dataIn, Prepared, bufferLength, outcomeOf}
+use Rattle.model.specs.Parts.{dataIn}
+use Rattle.turns.specs.Taken.{Prepared, bufferLength, outcomeOf}
 
 -- it has 257 bytes
 data-most : (q : Request) (b : List ℕ) → (stores q ≡ true → lengthOf q ≤ 257) → length (dataIn q b) ≤ 257

@@ -42,7 +42,8 @@ use Rattle.turns.specs.declared.Answered.{Answered}
 use Rattle.turns.specs.declared.Answered.the-variants.{To, Closing, NotYet}
 use Rattle.turns.specs.declared.Here.{Here}
 use Rattle.turns.specs.declared.Outcome.{Outcome}
-use Rattle.turns.specs.Taken.{sessionOf, dataIn, Prepared, bufferLength, Taken, Waiting}
+use Rattle.model.specs.Parts.{dataIn}
+use Rattle.turns.specs.Taken.{sessionOf, Prepared, bufferLength, Taken, Waiting}
 use Rattle.turns.specs.Told.{Sees, Seeing, hostOf, AnsweredBy, AnsweredTo}
 use Rattle.turns.proofs.Carried.{served-scratch, served-buffer, unready-taken, served-taken}
 use Rattle.turns.proofs.Filled.{prepared-long, unstoring, part-given}

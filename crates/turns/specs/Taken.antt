@@ -5,12 +5,12 @@ use mathlib.Core.List.{List, []}
 use mathlib.Core.Path.{_≡_}
 use lib.ListN.{length, take, replicate}
 use Rattle.lists.specs.Bytes.{over}
-use Rattle.lists.specs.Choice.{choose}
 use Rattle.model.specs.declared.Call.{Call}
 use Rattle.model.specs.declared.Request.{Request}
 use Rattle.model.specs.declared.Request.the-variants as request
 use Rattle.model.specs.Classes.{Moves, noBytes, fromSpace, toSpace}
 use Rattle.model.specs.Lines.{stores, lengthOf}
+use Rattle.model.specs.Parts.{dataIn}
 use Rattle.model.specs.Session.{Session, LineOutcome, Turn, requestTurn}
 use Rattle.deciding.specs.Decisions.{AsksWhole}
 use Rattle.ready.specs.Usable.{usable}
@@ -21,10 +21,6 @@ use Rattle.turns.specs.declared.Outcome.{Outcome}
 -- where the host stands in a session
 abbrev pub sessionOf : Host → (scratch : List ℕ) → Session
 sessionOf h m = record { begun = h .begun; tables = h .state; scratch = m }
-
--- the data that stand in a request's buffer
-unfoldable pub dataIn : Request → (buffer : List ℕ) → List ℕ
-dataIn q b = choose (stores q) (take (lengthOf q) b) []
 
 -- the buffer as the reader leaves it: a store finds its data in front, and all other bytes are zeros
 pub record Prepared (q : Request) (b : List ℕ) : Type 0 where

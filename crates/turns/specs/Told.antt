@@ -20,7 +20,8 @@ use Rattle.turns.specs.declared.Answered.the-variants.{To, Closing, NotY
 use Rattle.turns.specs.declared.Here.{Here}
 use Rattle.turns.specs.declared.Host.{Host}
 use Rattle.turns.specs.declared.Outcome.{Outcome}
-use Rattle.turns.specs.Taken.{sessionOf, dataIn, Taken, Waiting}
+use Rattle.model.specs.Parts.{dataIn}
+use Rattle.turns.specs.Taken.{sessionOf, Taken, Waiting}
 
 -- the tables s show what the request sees; `room` is the length of the lent scratch
 pub record Sees (s : State) (q : Request) (room : ℕ) (x : Here) (v : View) : Type 0 where
