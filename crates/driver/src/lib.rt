@@ -1,4 +1,4 @@
-// A session over input that comes in pieces. No function asks anything of its caller: soundness is tested once for a piece,
+// A session over input that comes in pieces. No public function asks anything of its caller: soundness is tested once for a piece,
 // and then the inner calls are used for every line of it.
 ghost use Prim.Native.Nat.{_+_, _≤_};
 ghost use mathlib.Core.Path.{_≡_};

@@ -1,3 +1,4 @@
+-- Laws of lines out of input that comes in pieces.
 pub mod Bounds
 pub mod ByLines
 pub mod Chain

@@ -1,13 +1,13 @@
 -- How long the line of a request that the writer takes may be. Assumes nothing.
 use Prim.Native.Nat.{ℕ, _+_, _≤_, _<_}
 use mathlib.Core.Bool.{Bool, true}
-use mathlib.Core.List.{List, [], _∷_, _++_}
-use mathlib.Core.Path.{_≡_, refl, ap, _∙_}
+use mathlib.Core.List.{List, [], _∷_}
+use mathlib.Core.Path.{_≡_, refl}
 use native.Mathlib.Omega.{arith}
 use lib.Dec.{eqb, leb}
 use lib.ListN.{length, take, length-append, length-take}
 use borrow.Author.Tests.{leb-true, ltb-true}
-use Rattle.lists.specs.Choice.{choose, both}
+use Rattle.lists.specs.Choice.{both}
 use Rattle.lists.specs.Places.{every, allFrom}
 use Rattle.lists.proofs.Choice.{choose-elim, both-left, both-right, true-false}
 use Rattle.lists.proofs.Places.{every-at}

@@ -7,6 +7,9 @@ ghost use Rattle.forms.specs.Tables.{shapeOf, callNames};
 // How many names a line may begin with.
 pub const CALLS: usize = 16;
 
+// Room for any line that is written: STORE and its 4 tabs, three numbers, each taken with 20 digits, and 514 digits of data.
+pub const MOST_BYTES: usize = 583;
+
 // The most fields that follow a name.
 pub const MOST_FIELDS: usize = 6;
 

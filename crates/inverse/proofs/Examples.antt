@@ -1,10 +1,12 @@
--- Requests of paper 01's session, written as its lines; and requests that are refused. Assumes nothing.
+-- Some requests written, taken and refused. Assumes nothing.
 use Prim.Native.Nat.{ℕ}
 use mathlib.Core.Bool.{true, false}
-use mathlib.Core.List.{List, [], _∷_}
+use mathlib.Core.List.{[], _∷_}
 use mathlib.Core.Path.{_≡_, refl}
+use Rattle.lists.specs.Bytes.{over}
 use Rattle.lists.specs.Choice.{choose, both, either}
 use Rattle.lists.specs.Text.{bytes}
+use Rattle.model.specs.declared.Answer.the-variants.{Done, RoomTooSmall, NotWritten}
 use Rattle.model.specs.declared.Operation.{Operation}
 use Rattle.model.specs.declared.Operation.the-variants.{Create, Store, Key}
 use Rattle.model.specs.declared.Request.{Request}
@@ -13,7 +15,7 @@ use Rattle.model.specs.Lines.{forms, packedName, packed, noBlank}
 use Rattle.model.specs.Names.{blanks, nameBytes}
 use Rattle.model.specs.Parts.{callParts, partsOf}
 use Rattle.model.specs.Session.{decimalBy, hexLetter, hexText}
-use Rattle.model.specs.Written.{unpadded, fieldText, fieldTexts, tabbed, written, oneField, takesField, takesFields, takes}
+use Rattle.model.specs.Written.{unpadded, fieldText, fieldTexts, tabbed, written, oneField, takesField, takesFields, takes, fits, writeAnswer, bufferAfter}
 
 abbrev call : (guest : ℕ) → Operation → (length : ℕ) → Request
 call g o n = Call (record { caller = record { guest = g }; operation = o }) n
@@ -27,7 +29,7 @@ unfolding written partsOf callParts forms fieldTexts fieldText tabbed decimalBy 
 create = refl
 
 -- of the bytes lent the first two
-pub store : written (call 2 (Store 5 4094) 2) (171 ∷ 205 ∷ 239 ∷ []) ≡ bytes "STORE\t2\t5\t4094\tABCD"
+pub store : written (call 1 (Store 4 4094) 2) (171 ∷ 205 ∷ 239 ∷ []) ≡ bytes "STORE\t1\t4\t4094\tABCD"
 unfolding written partsOf callParts forms fieldTexts fieldText tabbed decimalBy choose hexText hexLetter
 store = refl
 
@@ -60,3 +62,29 @@ too-few-lent = refl
 pub no-line : takes NotRead [] ≡ false
 unfolding takes partsOf forms both
 no-line = refl
+
+-- room: exact; one byte more, which stays; one byte too few, of which none changes
+pub exact : writeAnswer (Frames 8) [] (bytes "........") ≡ Done 8
+unfolding writeAnswer fits takes takesFields takesField written partsOf forms fieldTexts fieldText tabbed decimalBy choose both
+exact = refl
+
+pub past-stays : bufferAfter (Frames 8) [] (bytes "..........") ≡ bytes "FRAMES\t8.."
+unfolding bufferAfter fits takes takesFields takesField written partsOf forms fieldTexts fieldText tabbed decimalBy choose both over
+past-stays = refl
+
+pub short : writeAnswer (Frames 8) [] (bytes ".......") ≡ RoomTooSmall
+unfolding writeAnswer fits takes takesFields takesField written partsOf forms fieldTexts fieldText tabbed decimalBy choose both
+short = refl
+
+pub short-stays : bufferAfter (Frames 8) [] (bytes ".......") ≡ bytes "......."
+unfolding bufferAfter fits takes takesFields takesField written partsOf forms fieldTexts fieldText tabbed decimalBy choose both
+short-stays = refl
+
+-- 42 first
+pub no-room-either : writeAnswer (call 2 (Store 5 4094) 2) (171 ∷ []) [] ≡ NotWritten
+unfolding writeAnswer takes takesFields takesField partsOf callParts forms choose both
+no-room-either = refl
+
+pub refused-stays : bufferAfter NotRead [] (bytes "..........") ≡ bytes ".........."
+unfolding bufferAfter takes partsOf forms choose both
+refused-stays = refl

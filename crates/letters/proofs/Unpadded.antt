@@ -1,5 +1,5 @@
 -- The blanks on the right of a name are found from its end. Assumes nothing.
-use Prim.Native.Nat.{ℕ, zero, suc, _-_, _≤_, _<_}
+use Prim.Native.Nat.{ℕ, suc, _-_, _≤_, _<_}
 use mathlib.Core.Bool.{Bool, true, false}
 use mathlib.Core.List.{List, [], _∷_, _++_}
 use mathlib.Core.Path.{_≡_, refl, sym, ap, _∙_}
@@ -7,9 +7,9 @@ use native.Mathlib.Omega.{arith}
 use lib.Dec.{eqb}
 use lib.ListN.{length, getD, take}
 use lib.Seq.{take-suc, take-all}
-use borrow.Author.Tests.{eq-eqb, ne-eqb}
+use borrow.Author.Tests.{ne-eqb}
 use Rattle.lists.specs.Choice.{choose, both}
-use Rattle.lists.proofs.Choice.{yes!, no!, both-no, both-not, both-yes}
+use Rattle.lists.proofs.Choice.{no!, both-no, both-not}
 use Rattle.model.specs.Names.{blanks}
 use Rattle.model.specs.Written.{unpadded}
 

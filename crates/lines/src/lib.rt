@@ -7,7 +7,7 @@ ghost use Rattle.lists.specs.Bytes.{over};
 ghost use Rattle.model.specs.declared.Request.{Request};
 ghost use Rattle.model.specs.Lines.{fields, readFields, makeBy, rightOf, readLine, dataOf, calls, formAt};
 ghost use Rattle.lines.specs.Fields.{following, DataAt};
-ghost use Rattle.forms.specs.Tables.{shapeOf, callNames};
+ghost use Rattle.forms.specs.Tables.{shapeOf};
 ghost use Rattle.lines.specs.Made.{placeOf, askedBy, madeBy};
 use fields::Field;
 use model::Call;

@@ -1,4 +1,4 @@
--- Paper 02, M-104, of requests as values: which form a request has, the values of its fields, and its one form.
+-- Paper 02, M-104, of requests as values: which form of a line a request has, the values of its fields, and the request made canonical.
 use Prim.Native.Nat.{ℕ}
 use mathlib.Core.List.{List, [], _∷_}
 use lib.ListN.{take}
@@ -51,7 +51,7 @@ partsOf NotRead = parted calls []
 abbrev pub formOf : Request → Form
 formOf q = formAt (partsOf q .form)
 
--- A request's one form: the length of a call that moves no bytes is 0.
+-- A canonical request: what its line does not tell, the length of a call that moves no bytes, is 0.
 unfoldable pub canonical : Request → Request
 canonical (Frames f) = Frames f
 canonical (Call k n) = Call k (choose (movesBytes (classOf (k .operation) .moves)) n 0)

@@ -36,7 +36,7 @@ WritesBack =
     (l : List ℕ) → AllBytes l → NoNewline l → (readLine l ≡ NotRead → ⊥)
     → (takes (readLine l) (dataOf l) ≡ true) × (written (readLine l) (dataOf l) ≡ l)
 
--- what was read has its one form
+-- what was read is canonical
 abbrev pub ReadCanonical : Type 0
 ReadCanonical = (l : List ℕ) → canonical (readLine l) ≡ readLine l
 
@@ -50,7 +50,7 @@ RefusedRightly =
 abbrev pub WrittenLine : Type 0
 WrittenLine = (q : Request) (d : List ℕ) → takes q d ≡ true → NoNewline (written q d) × (length (written q d) ≤ 600)
 
--- The program `rewrite`: "every line that the reader takes, as the writer writes it, each with a newline; nothing for the others".
+-- The program `rewrite`: every line that the reader takes, as the writer writes it, each with a newline; nothing for the others.
 unfoldable pub rewritten : (line : List ℕ) → List ℕ
 rewritten l = choose (takes (readLine l) (dataOf l)) (written (readLine l) (dataOf l) ++ bytes "\n") []
 

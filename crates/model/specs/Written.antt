@@ -47,8 +47,8 @@ tabbed (t ∷ ts) = byte "\t" ∷ (t ++ tabbed ts)
 unfoldable pub written : Request → (lent : List ℕ) → List ℕ
 written q d = formOf q .word ++ tabbed (fieldTexts (formOf q .kinds) (partsOf q .values) d)
 
--- "a request whose name or data the reader wouldn't take": a name of blanks alone, or with a blank before another byte, a tab or
--- a newline; data of more than 257 bytes, or more than are lent. Any number is taken, and any right.
+-- "a request whose name or data the reader wouldn't take": a name of blanks alone, or with a blank before another byte, or with a
+-- tab or a newline in it; data of more than 257 bytes, or more than are lent. Any number is taken, and any right.
 unfoldable pub oneField : List ℕ → Bool
 oneField [] = true
 oneField (b ∷ bs) = both (not (either (eqb b (byte "\t")) (eqb b (byte "\n")))) (oneField bs)

@@ -1,10 +1,8 @@
 -- A request is taken apart by its case. Assumes nothing.
 use Prim.Native.Nat.{ℕ}
 use mathlib.Core.Path.{_≡_, sym, subst}
-use lib.ListN.{length, take}
 use Rattle.model.specs.declared.Operation.{Operation}
 use Rattle.model.specs.declared.Request.{Request}
-use Rattle.model.specs.Lines.{formAt}
 use Rattle.model.specs.Parts.{callParts, partsOf}
 use Rattle.parting.specs.declared.Parts.{Parts}
 use Rattle.parting.specs.Apart.{Apart}

@@ -6,7 +6,7 @@ use model::Operation;
 use model::Request;
 use model::Right;
 
-// The number of a request's form, and the values of its fields, zeros after them.
+// The number of a request's form, and the values of its fields; what stands behind them counts for nothing.
 pub struct Parts {
     pub form: usize,
     pub values: [u64; forms::MOST_FIELDS],

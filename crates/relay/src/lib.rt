@@ -19,8 +19,8 @@ pub enum How {
     WritingFailed { error: u32 },
 }
 
-// `line` is the last line whose reply was written whole; where lines are written again it is the last of those. `taken` counts the
-// bytes read, and `written` those written after the header.
+// `line` is the last line whose reply was written whole; where lines are written again they are counted as they are written. `taken`
+// counts the bytes read, and `written` those written, a session's header left out.
 pub struct Ending {
     pub how: How,
     pub line: u64,
@@ -145,7 +145,7 @@ fn answer_piece(
     }
 }
 
-// The end of the input: a last line without a newline is answered.
+// The end of the input: a last line without a newline ends too.
 fn answer_end(
     to: i32,
     work: Work,

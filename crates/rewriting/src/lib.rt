@@ -1,5 +1,5 @@
 // Lines written again, over input that comes in pieces: every line that the reader takes, as the writer writes it, each with a
-// newline, and nothing for the others. No function asks anything of its caller.
+// newline, and nothing for the others. No public function asks anything of its caller.
 ghost use Prim.Native.Nat.{_+_, _≤_};
 ghost use mathlib.Core.Path.{_≡_};
 ghost use lib.Dec.{eqb};

@@ -5,10 +5,10 @@ use mathlib.Core.List.{List, [], _∷_}
 use mathlib.Core.Logic.{⊎-elim}
 use mathlib.Core.Path.{_≡_, sym, ap, _∙_, subst}
 use native.Mathlib.Omega.{arith}
-use lib.Dec.{eqb, leb}
+use lib.Dec.{leb}
 use lib.ListN.{length, take, length-take}
 use borrow.Author.Tests.{eq-eqb, ne-eqb, le-leb, lt-leb, leb-true}
-use Rattle.lists.specs.Choice.{choose, both}
+use Rattle.lists.specs.Choice.{both}
 use Rattle.lists.proofs.Choice.{yes!, no!, both-yes, both-no, both-left, both-right}
 use Rattle.model.specs.Lines.{FieldKind, number, name, right, hex}
 use Rattle.model.specs.Session.{decimal, hexText}

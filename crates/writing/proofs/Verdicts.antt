@@ -4,13 +4,12 @@ use mathlib.Core.Bool.{Bool, true, false}
 use mathlib.Core.List.{List, [], _∷_, _++_}
 use mathlib.Core.Path.{_≡_, refl, sym, ap, ap₂, _∙_}
 use native.Mathlib.Omega.{arith}
-use lib.ListN.{length, take, drop}
+use lib.ListN.{length, take}
 use lib.Seq.{take-at}
 use borrow.Author.Tests.{lt-ltb, le-ltb, le-leb, lt-leb}
 use Rattle.lists.specs.Bytes.{over}
 use Rattle.lists.specs.Choice.{both}
 use Rattle.lists.proofs.Choice.{yes!, no!, both-yes, both-no, both-not}
-use Rattle.model.specs.declared.Answer.{Answer}
 use Rattle.model.specs.declared.Answer.the-variants.{Done, RoomTooSmall, NotWritten}
 use Rattle.model.specs.declared.Request.{Request}
 use Rattle.model.specs.Lines.{FieldKind, calls, formAt}

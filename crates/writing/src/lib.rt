@@ -73,7 +73,7 @@ pub fn write(request: Request, lent: &[u8], out: &mut [u8]) -> Answer
     if !takes_fields(form, values, lent) {
         return Answer::NotWritten;
     }
-    let mut line = [0u8; 583];
+    let mut line = [0u8; forms::MOST_BYTES];
     let n = put_line(&mut line, form, values, lent);
     if out.len() < n {
         return Answer::RoomTooSmall;

@@ -1,6 +1,4 @@
 -- `writing::put_fields` meets its contract.
-use mathlib.Core.Path.{_≡_}
-use lib.ListN.{length}
 use borrow.Author.Needs.{needs}
 use Rattle.lists.specs.Choice.{both}
 use Rattle.lists.specs.Places.{every, allFrom}
