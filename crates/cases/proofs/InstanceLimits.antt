@@ -1,6 +1,6 @@
 -- M-102's law on a concrete call: ENROL with four of its five settings wrong, of which the allowance stands furthest left. Assumes
 -- nothing.
-use Prim.Native.Nat.{ℕ, _≤_, _*_}
+use Prim.Native.Nat.{_≤_, _*_}
 use mathlib.Core.Bool.{true}
 use mathlib.Core.Path.{_≡_, refl, ap}
 use native.Mathlib.Omega.{arith}

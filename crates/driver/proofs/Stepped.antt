@@ -23,7 +23,7 @@ use Rattle.turns.specs.declared.Changed.{Changed}
 use Rattle.turns.specs.declared.Outcome.{Outcome}
 use Rattle.model.specs.Parts.{dataIn}
 use Rattle.turns.specs.Taken.{sessionOf, Prepared, Taken, Waiting, hostAfter, ChangedTo}
-use Rattle.turns.specs.Told.{Sees, Seeing, hostOf, AnsweredBy, WithEdit, WithClosing, Unanswered, AnsweredTo}
+use Rattle.turns.specs.Told.{Sees, hostOf, AnsweredBy, WithEdit, WithClosing, Unanswered, AnsweredTo}
 use Rattle.turns.proofs.Filled.{prepared-long}
 use Rattle.edits.specs.declared.Edit.{Edit}
 use Rattle.edits.specs.Edits.{changeOf}
@@ -98,6 +98,3 @@ module _ (l : List ℕ) (q : Request) (b : List ℕ) (e : q ≡ readLine l) (f :
 -- What has been read out of the tables is what the request sees.
 pub sees-read : (s : State) (q : Request) (a : Asks) (room : ℕ) (x : Here) (v : View) → a ≡ asksFor q → v ≡ viewOf s a → x .ready ≡ usable s room → x .frames ≡ s .frames → Sees s q room x v
 sees-read s q a room x v e p r f = record { ready = r; frames = f; view = p ∙ ap (viewOf s) e }
-
-pub seeing-read : (s : State) (q : Request) (a : Asks) (room : ℕ) (x : Here) (v : View) → a ≡ asksFor q → v ≡ viewOf s a → x .ready ≡ usable s room → x .frames ≡ s .frames → Seeing q room x v
-seeing-read s q a room x v e p r f = record { tables = s; sees = sees-read s q a room x v e p r f }

@@ -9,7 +9,7 @@ use lib.Dec.{leb}
 use lib.ListN.{set}
 use borrow.Author.Tests.{leb-true, not-true, not-false}
 use Rattle.lists.specs.Choice.{choose, both}
-use Rattle.lists.proofs.Choice.{not-so, yes!, no!, both-left, both-right}
+use Rattle.lists.proofs.Choice.{both-left, both-right}
 use Rattle.model.specs.declared.Answer.{Answer}
 use Rattle.model.specs.declared.Answer.the-variants.{Done, BadCaller, Limit}
 use Rattle.model.specs.declared.Caller.{Caller}
@@ -29,7 +29,7 @@ use Rattle.model.specs.Leaves.{inRun}
 use Rattle.model.specs.Replies.{reply, callOf, Carried}
 use Rattle.model.specs.SoundTest.{sound}
 use Rattle.model.specs.Step.{clearFrames}
-use Rattle.model.specs.Tables.{guestAt, guestPlace, withGuests}
+use Rattle.model.specs.Tables.{guestPlace, withGuests}
 use Rattle.model.proofs.Rules.{check-yes, check-no}
 use Rattle.enrolling.specs.Enrolling.{mayEnrolIn, wrongOf, kindAt, Decides, EnrolsTo}
 use Rattle.making.specs.declared.Placed.{Placed}

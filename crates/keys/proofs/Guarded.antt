@@ -1,14 +1,13 @@
 -- What the code asks of two blocks is what the model asks of every byte's. Assumes nothing.
-use Prim.Native.Nat.{ℕ, _+_, _-_, _*_, _/_, _%_, _≤_, _<_}
+use Prim.Native.Nat.{ℕ, _+_, _-_, _/_, _%_, _≤_, _<_}
 use mathlib.Core.Bool.{Bool, true, false}
 use mathlib.Core.Logic.{⊎-elim}
-use mathlib.Core.Path.{_≡_, refl, sym, ap, _∙_}
+use mathlib.Core.Path.{_≡_, sym, ap, _∙_}
 use native.Mathlib.Omega.{arith}
 use lib.Dec.{leb}
 use borrow.Author.Tests.{leb-true, leb-false}
 use Rattle.lists.specs.Choice.{both, either}
 use Rattle.lists.proofs.Choice.{true-or-false, both-true, both-same, either-left, either-no}
-use Rattle.model.specs.declared.Cell.{Cell}
 use Rattle.model.specs.declared.State.{State}
 use Rattle.model.specs.Frames.{layout, frameOf}
 use Rattle.model.specs.Keys.{allowsKey, blockAt, keyPermits}

@@ -1,5 +1,5 @@
 // Looking things up in the tables. A search that finds nothing gives the number of places.
-ghost use Prim.Native.Nat.{_+_, _≤_, _<_};
+ghost use Prim.Native.Nat.{_+_, _<_};
 ghost use mathlib.Core.Path.{_≡_};
 ghost use Rattle.lists.specs.Choice.{choose};
 ghost use Rattle.model.specs.Leaves.{callerPlace};

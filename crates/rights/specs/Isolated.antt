@@ -3,7 +3,6 @@
 use Prim.Native.Nat.{ℕ, _<_}
 use mathlib.Core.Bool.{true}
 use mathlib.Core.Path.{_≡_}
-use Rattle.model.specs.declared.Answer.{Answer}
 use Rattle.model.specs.declared.Caller.{Caller}
 use Rattle.model.specs.declared.Change.the-variants.{IsolateSpace}
 use Rattle.model.specs.declared.Operation.the-variants.{Isolate}

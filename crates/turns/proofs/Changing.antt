@@ -30,7 +30,7 @@ use Rattle.deciding.proofs.Decided.{whole-unmoving}
 use Rattle.ready.specs.Usable.{usable}
 use Rattle.turns.specs.declared.Changed.{Changed}
 use Rattle.turns.specs.declared.Host.{Host}
-use Rattle.turns.specs.Taken.{sessionOf, Taken, Waiting, CallWaits, hostAfter, ChangedTo}
+use Rattle.turns.specs.Taken.{sessionOf, Taken, Waiting, CallWaits, ChangedTo}
 use Rattle.turns.proofs.Carried.{served-scratch, after, served-taken}
 use Rattle.turns.proofs.Usable.{usable-sound, usable-room, usable-part}
 

@@ -22,9 +22,8 @@ use Rattle.model.specs.declared.State.{State}
 use Rattle.model.specs.Changes.{applied}
 use Rattle.model.specs.Classes.{storesBytes, classOf}
 use Rattle.model.specs.Lines.{stores}
-use Rattle.model.specs.Replies.{reply, callOf}
+use Rattle.model.specs.Replies.{reply}
 use Rattle.model.specs.Session.{bufferFor, requestTurn}
-use Rattle.model.specs.SoundTest.{sound}
 use Rattle.access.proofs.Reach.{seen-run}
 use Rattle.deciding.specs.declared.Decision.{Decision}
 use Rattle.deciding.specs.declared.Decision.the-variants.{Made, Closes, NeedsTables}
@@ -36,12 +35,11 @@ use Rattle.edits.specs.declared.Edited.{Edited}
 use Rattle.edits.specs.Edits.{changeOf, Fits}
 use Rattle.transfer.specs.Transferred.{RunIn}
 use Rattle.views.specs.declared.View.{View}
-use Rattle.asks.specs.Asks.{asksBy, asksFor}
+use Rattle.asks.specs.Asks.{asksFor}
 use Rattle.views.specs.Views.{viewOf}
 use Rattle.turns.specs.declared.Answered.{Answered}
 use Rattle.turns.specs.declared.Answered.the-variants.{To, Closing, NotYet}
 use Rattle.turns.specs.declared.Here.{Here}
-use Rattle.turns.specs.declared.Outcome.{Outcome}
 use Rattle.model.specs.Parts.{dataIn}
 use Rattle.turns.specs.Taken.{sessionOf, Prepared, bufferLength, Taken, Waiting}
 use Rattle.turns.specs.Told.{Sees, Seeing, hostOf, AnsweredBy, AnsweredTo}

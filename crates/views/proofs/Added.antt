@@ -1,7 +1,7 @@
 -- The entry that ADD takes, as it has seen it. Assumes nothing.
 use Prim.Native.Nat.{ℕ, min, _+_, _-_, _*_, _≤_, _<_}
-use mathlib.Core.Bool.{Bool, true, false}
-use mathlib.Core.Path.{_≡_, refl, sym, ap, ap₂, _∙_}
+use mathlib.Core.Bool.{true}
+use mathlib.Core.Path.{_≡_, sym, ap, ap₂, _∙_}
 use native.Mathlib.Omega.{arith}
 use lib.Dec.{ltb}
 use lib.ListN.{getD}
@@ -11,8 +11,6 @@ use Rattle.lists.specs.Places.{lowestFrom}
 use Rattle.lists.proofs.Choice.{yes! }
 use Rattle.lookup.specs.Rows.{rowOf}
 use Rattle.lookup.proofs.Lists.{free-entry-at}
-use Rattle.model.specs.declared.Entry.{Entry}
-use Rattle.model.specs.declared.Guest.{Guest}
 use Rattle.model.specs.declared.Operation.the-variants.{Add}
 use Rattle.model.specs.declared.Right.{Right}
 use Rattle.model.specs.declared.State.{State}

@@ -1,11 +1,11 @@
 -- The search for an entry, entry by entry, comes to the lowest that may be taken. Assumes nothing.
 use Prim.Native.Nat.{ℕ, min, _+_, _-_, _*_, _≤_, _<_}
-use mathlib.Core.Bool.{Bool, true, false, not}
+use mathlib.Core.Bool.{Bool, true, false}
 use mathlib.Core.List.{List}
 use mathlib.Core.Path.{_≡_, refl, sym, ap, _∙_}
 use native.Mathlib.Omega.{arith}
 use lib.Dec.{ltb}
-use borrow.Author.Tests.{ltb-true, ltb-false, lt-ltb, not-true, not-false}
+use borrow.Author.Tests.{ltb-true, ltb-false}
 use Rattle.lists.specs.Choice.{choose}
 use Rattle.lists.specs.Places.{lowestFrom}
 use Rattle.lists.proofs.Choice.{true-false, yes!, no! }

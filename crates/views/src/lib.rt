@@ -1,6 +1,6 @@
 // What a call looks at in the tables: a few elements. Whoever owns the tables reads them out and hands them to the call, so
 // that no table is moved to it. Which elements they are is `viewOf` of the specs.
-ghost use Prim.Native.Nat.{_+_, _/_, _≤_, _<_};
+ghost use Prim.Native.Nat.{_+_, _/_, _<_};
 ghost use mathlib.Core.Bool.{true, false};
 ghost use mathlib.Core.Path.{_≡_};
 ghost use Rattle.asks.specs.declared.Sought.the-variants.{Nothing};

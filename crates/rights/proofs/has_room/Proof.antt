@@ -1,6 +1,5 @@
 -- `rights::has_room` meets its contract. Assumes nothing.
 use Rattle.lists.proofs.Rules.{tests}
-use borrow.Author.Needs.{needs}
 use Rattle.rights.proofs.has_room.Statement.{statement}
 use Rattle.rights.proofs.has_room.Tie as tie
 

@@ -1,6 +1,5 @@
 -- `rights::is_guest` meets its contract. Assumes nothing.
 use Rattle.lists.proofs.Rules.{tests}
-use borrow.Author.Needs.{needs}
 use Rattle.rights.proofs.is_guest.Statement.{statement}
 use Rattle.rights.proofs.is_guest.Tie as tie
 

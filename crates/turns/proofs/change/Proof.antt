@@ -1,5 +1,4 @@
 -- `turns::change` meets its contract. Assumes nothing.
-use mathlib.Core.Path.{refl}
 use Rattle.turns.proofs.Changing.{waits-here, known-changed, unread-changed}
 use borrow.Author.Needs.{needs}
 use Rattle.turns.proofs.change.Statement.{statement}
