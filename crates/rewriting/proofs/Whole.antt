@@ -6,13 +6,12 @@ use mathlib.Core.Path.{_≡_, _∙_}
 use lib.ListN.{take}
 use Rattle.model.specs.Rewritten.{rewrittenText}
 use Rattle.model.specs.Session.{Session}
-use Rattle.feeds.specs.Feed.{Feed, joined}
+use Rattle.feeds.specs.Feed.{Feed, joined, newRewriting}
 use Rattle.feeds.specs.Fed.{FinishedTo, Feeds}
 use Rattle.feeds.proofs.ByLines.{any-cut-rewritten}
 use Rattle.feeds.proofs.Chain.{whole-text}
-use Rattle.rewriting.specs.Fed.{feedOf, opened}
 
-pub whole-rewriting : {f : Feed} {parts texts : List (List ℕ)} {m out out' m' : List ℕ} {written : ℕ} (s : Session) (held : List ℕ)
-    → Feeds (feedOf s opened held) parts texts f → FinishedTo f m out true written m' out'
+pub whole-rewriting : {f : Feed} {parts texts : List (List ℕ)} {m out out' m' : List ℕ} {written : ℕ} (s : Session)
+    → Feeds (newRewriting s) parts texts f → FinishedTo f m out true written m' out'
     → joined texts ++ take written out' ≡ rewrittenText (joined parts)
-whole-rewriting {parts} s held c d = whole-text c d ∙ any-cut-rewritten s parts
+whole-rewriting {parts} s c d = whole-text c d ∙ any-cut-rewritten s parts

@@ -12,10 +12,6 @@ use Rattle.rewriting.specs.declared.Rewriting.{Rewriting}
 abbrev pub feedOf : Session → Rewriting → (held : List ℕ) → Feed
 feedOf s r h = record { work = rewrites; session = s; line = r .line; held = take (r .have) h }
 
--- before the first line
-abbrev pub opened : Rewriting
-opened = record { line = 1; have = 0 }
-
 -- what became of a piece of input
 abbrev pub FedBy : Rewriting → (held input out : List ℕ) → (used written : ℕ) → Rewriting → (held' out' : List ℕ) → Type 0
 FedBy r h input out used written r' h' out' = (s : Session) → FedTo (feedOf s r h) input out used written (feedOf s r' h') out'

@@ -9,7 +9,7 @@ ghost use Rattle.model.specs.Rewritten.{rewritten};
 ghost use Rattle.model.specs.Session.{nextLine};
 ghost use Rattle.digits.specs.Wrote.{Wrote};
 ghost use Rattle.feeds.specs.Feed.{wholeLine};
-ghost use Rattle.rewriting.specs.Fed.{opened, FedBy, FinishedBy};
+ghost use Rattle.rewriting.specs.Fed.{FedBy, FinishedBy};
 
 // What stands between two pieces of input: the number of the next line that is written, and how many bytes of a line are held.
 pub struct Rewriting {
@@ -27,13 +27,6 @@ pub struct Fed {
 pub struct Finished {
     pub done: bool,
     pub written: usize,
-}
-
-// Before the first line.
-pub fn open() -> Rewriting
-    ensures { λ r. ⌜ r ≡ opened ⌝ }
-{
-    Rewriting { line: 1, have: 0 }
 }
 
 // A line whose first bytes may be held: it is written from `at` on where the writer takes it. The place after it.
