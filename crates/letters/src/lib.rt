@@ -83,7 +83,6 @@ pub fn takes_name(name: u64) -> bool
 pub fn put_name(out: &mut [u8], at: usize, name: u64) -> usize
     requires { ⌜ at + 8 ≤ length (now out) ⌝ }
     ensures { λ r. ⌜ Wrote (now (out .entry)) at (nameText name) (now (out .exit)) r ⌝ }
-    ensures short { λ r. ⌜ r ≤ at + 8 ⌝ }
 {
     let b = bytes_of(name);
     let n = text_end(&b);

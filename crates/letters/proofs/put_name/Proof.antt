@@ -5,7 +5,7 @@ use Rattle.letters.proofs.put_name.Statement.{statement}
 use Rattle.letters.proofs.put_name.Tie as tie
 
 returns : tie.Need-returns
-returns c = (search name-written, search needs)
+returns c = search name-written
 
 pub put-name-spec : {M : Type 1} → statement M
 put-name-spec =
