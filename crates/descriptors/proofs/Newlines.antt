@@ -2,13 +2,13 @@
 use Prim.Native.Nat.{ℕ, _+_, _≤_, _<_}
 use mathlib.Core.Bool.{Bool, true, false}
 use mathlib.Core.List.{List, [], _∷_, _++_}
-use mathlib.Core.Path.{_≡_}
-use native.Mathlib.Numerals.{add-one}
+use mathlib.Core.Path.{_≡_, ap}
 use native.Mathlib.Omega.{arith}
 use lib.Dec.{eqb}
 use lib.ListN.{length, drop, getD}
-use lib.Seq.{drop-cons, drop-length}
+use lib.Seq.{drop-length}
 use Rattle.lists.specs.Places.{oneIf}
+use Rattle.lists.proofs.Parts.{drop-next}
 use Rattle.descriptors.specs.Came.{newlines}
 
 one-most : (t : Bool) → oneIf t ≤ 1
@@ -39,7 +39,7 @@ module _ (l : List ℕ) where
   module _ (n i : ℕ) (s : Newlines l n i) where
     next-newlines : i < length l → newlines (drop i l) ≡ oneIf (eqb (getD l i 0) 10) + newlines (drop (i + 1) l)
     unfolding newlines
-    next-newlines k = rw (add-one, drop-cons l i 0)
+    next-newlines k = ap newlines (drop-next l i 0 k)
 
     pub newlines-go : (y : ℕ) → i < length l → y ≡ oneIf (eqb (getD l i 0) 10) → Newlines l (n + y) (i + 1)
     newlines-go y k e =

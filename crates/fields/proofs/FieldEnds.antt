@@ -3,18 +3,16 @@ use Prim.Native.Nat.{ℕ, _+_, _≤_, _<_}
 use mathlib.Core.Bool.{Bool, true, false}
 use mathlib.Core.List.{List, [], _∷_}
 use mathlib.Core.Path.{_≡_, refl, sym, ap, _∙_}
-use native.Mathlib.Numerals.{add-one}
 use native.Mathlib.Omega.{arith}
 use lib.Dec.{eqb}
 use lib.ListN.{length, drop, getD, drop-of-length-le}
-use lib.Seq.{drop-cons}
 use borrow.Author.Tests.{eq-eqb, ne-eqb, eqb-true, eqb-false}
 use Rattle.lists.proofs.Choice.{yes!, no! }
-use Rattle.lists.proofs.Parts.{no-elements}
+use Rattle.lists.proofs.Parts.{no-elements, drop-next}
 use Rattle.fields.specs.Fields.{firstField, fieldFrom, endFrom}
 
 pub drop-turn : (l : List ℕ) (i : ℕ) → i < length l → drop i l ≡ getD l i 0 ∷ drop (i + 1) l
-drop-turn l i h = rw (add-one i, drop-cons l i 0)
+drop-turn l i = drop-next l i 0
 
 pub field-step : (l : List ℕ) (i : ℕ) → i < length l → (getD l i 0 ≡ 9 → ⊥) → fieldFrom l i ≡ getD l i 0 ∷ fieldFrom l (i + 1)
 unfolding firstField

@@ -1,16 +1,15 @@
 -- The bytes of a name's field are tested one by one. Assumes nothing.
 use Prim.Native.Nat.{ℕ, _+_, _≤_, _<_}
 use mathlib.Core.Bool.{Bool, true, false, not}
-use mathlib.Core.List.{List, _∷_}
+use mathlib.Core.List.{List}
 use mathlib.Core.Path.{_≡_, refl, sym, ap, _∙_}
 use native.Mathlib.Omega.{arith}
-use native.Mathlib.Numerals.{add-one}
 use lib.Dec.{eqb, leb}
 use lib.ListN.{length, getD, drop, drop-of-length-le}
-use lib.Seq.{drop-cons}
 use borrow.Author.Tests.{le-leb}
 use Rattle.lists.specs.Choice.{both, either}
 use Rattle.lists.proofs.Choice.{true-false}
+use Rattle.lists.proofs.Parts.{drop-next}
 use Rattle.model.specs.Lines.{noBlank}
 use Rattle.model.specs.Written.{oneField}
 
@@ -41,12 +40,9 @@ pub record Passed (l : List ℕ) (i : ℕ) : Type 0 where
 pub passed-start : (l : List ℕ) → Passed l 0
 passed-start l = record { same = refl }
 
-turned : (l : List ℕ) (i : ℕ) → i < length l → drop i l ≡ getD l i 0 ∷ drop (i + 1) l
-turned l i h = rw (add-one i, drop-cons l i 0)
-
 pub passed-more : (l : List ℕ) (i : ℕ) (r : Bool) → Passed l i → i < length l → r ≡ either (eqb (getD l i 0) 32) (either (eqb (getD l i 0) 9) (eqb (getD l i 0) 10)) → r ≡ false → Passed l (i + 1)
 unfolding noBlank oneField
-passed-more l i r p h e n = record { same = p .same ∙ ap inField (turned l i h) ∙ inside (eqb (getD l i 0) 32) _ _ _ _ (sym e ∙ n) }
+passed-more l i r p h e n = record { same = p .same ∙ ap inField (drop-next l i 0 h) ∙ inside (eqb (getD l i 0) 32) _ _ _ _ (sym e ∙ n) }
 
 -- a text of some bytes
 nonempty : (l : List ℕ) → (length l ≡ 0 → ⊥) → both (both (leb 1 (length l)) (noBlank l)) (oneField l) ≡ inField l
@@ -56,7 +52,7 @@ nonempty l n = ap (λ (t : Bool). both (both t (noBlank l)) (oneField l)) (le-le
 pub passed-out : (l : List ℕ) (i : ℕ) (r : Bool) → (length l ≡ 0 → ⊥) → Passed l i → i < length l → r ≡ either (eqb (getD l i 0) 32) (either (eqb (getD l i 0) 9) (eqb (getD l i 0) 10)) → r ≡ true
     → false ≡ both (both (leb 1 (length l)) (noBlank l)) (oneField l)
 unfolding noBlank oneField
-passed-out l i r z p h e n = sym (nonempty l z ∙ p .same ∙ ap inField (turned l i h) ∙ outside (eqb (getD l i 0) 32) _ _ _ _ (sym e ∙ n))
+passed-out l i r z p h e n = sym (nonempty l z ∙ p .same ∙ ap inField (drop-next l i 0 h) ∙ outside (eqb (getD l i 0) 32) _ _ _ _ (sym e ∙ n))
 
 pub passed-all : (l : List ℕ) (i : ℕ) → (length l ≡ 0 → ⊥) → Passed l i → length l ≤ i → true ≡ both (both (leb 1 (length l)) (noBlank l)) (oneField l)
 unfolding noBlank oneField both

@@ -1,12 +1,14 @@
--- Laws of the first elements of a list: how many there are, what is kept of them, and how they are put back. Assumes nothing.
-use Prim.Native.Nat.{ℕ, zero, suc, min, _+_, _≤_}
+-- Laws of the first elements of a list: how many there are, what is kept of them, how they are put back, and what is left behind
+-- them. Assumes nothing.
+use Prim.Native.Nat.{ℕ, zero, suc, min, _+_, _≤_, _<_}
 use mathlib.Core.List.{List, [], _∷_, _++_, append-nil}
 use mathlib.Core.Path.{_≡_, refl, sym, ap, _∙_}
 use native.Mathlib.Decide.{decLe}
+use native.Mathlib.Numerals.{add-one}
 use native.Mathlib.Omega.{arith}
 use lib.Dec.{leb, eqb}
-use lib.ListN.{length, take, drop, replicate, take-append-drop, drop-of-length-le}
-use lib.Seq.{take-all, take-at, length-take-le}
+use lib.ListN.{length, getD, take, drop, replicate, take-append-drop, drop-of-length-le}
+use lib.Seq.{take-all, take-at, drop-cons, length-take-le}
 use borrow.Author.Tests.{le-leb, lt-leb, eq-eqb, ne-eqb}
 use Rattle.lists.specs.Bytes.{over}
 
@@ -37,6 +39,10 @@ module _ {A : Type 0} where
       go : Dec (length l ≤ k) → take n l ≡ take k l
       go (yes h) = take-all n l (omega arith) ∙ sym (take-all k l h)
       go (no h) = let q : n ≡ k = omega arith in rw q
+
+  -- what is left from a place inside: the element there, and what follows it
+  pub drop-next : (l : List A) (i : ℕ) (d : A) → i < length l → drop i l ≡ getD l i d ∷ drop (i + 1) l
+  drop-next l i d h = rw (add-one i, drop-cons l i d)
 
   -- what is kept of a list that comes in two parts
   pub take-kept : (n : ℕ) (x y : List A) → take n (take n x ++ y) ≡ take n (x ++ y)

@@ -3,11 +3,10 @@ use Prim.Native.Nat.{ℕ, _+_, _/_, _%_, _≤_, _<_}
 use mathlib.Core.Bool.{Bool, true, false}
 use mathlib.Core.List.{List, [], _∷_, _++_, append-nil, append-assoc}
 use mathlib.Core.Path.{_≡_, refl, sym, ap, ap₂, _∙_, subst}
-use native.Mathlib.Numerals.{add-one}
 use native.Mathlib.Omega.{arith}
 use lib.ListN.{length, getD, drop}
-use lib.Seq.{drop-cons}
 use Rattle.lists.proofs.Choice.{both-yes, both-no, both-left, both-right}
+use Rattle.lists.proofs.Parts.{drop-next}
 use Rattle.model.specs.Lines.{FieldKind, calls, formAt}
 use Rattle.model.specs.Written.{fieldText, fieldTexts, tabbed, takesField, takesFields}
 use Rattle.digits.specs.Wrote.{Wrote}
@@ -49,7 +48,7 @@ next {values} {shape} {k} r n = go (r .kinds) refl (kinds-of shape (r .kinds) (r
           is = e;
           kind-is = q;
           inside = i;
-          value = rw (add-one k, drop-cons values k 0 i);
+          value = drop-next values k 0 i;
         }
 
 last : {values : List ℕ} {shape k : ℕ} (r : Remaining values shape k) → shape ≡ 0 → r .kinds ≡ []
