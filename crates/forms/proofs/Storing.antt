@@ -6,7 +6,10 @@ use mathlib.Core.Path.{_≡_, refl, sym, ap, _∙_}
 use native.Mathlib.Omega.{arith}
 use lib.ListN.{length, getD, drop, length-drop}
 use Rattle.lists.proofs.Choice.{true-false}
-use Rattle.model.specs.Lines.{FieldKind, number, name, right, hex, Form, forms, at, stores, lengthOf, calls, noForm, formAt}
+use Rattle.model.specs.Lines.{FieldKind, number, name, right, hex, Form, forms, at, stores, lengthOf, calls, formAt}
+use Rattle.model.specs.Places.{EachForm}
+pub use Rattle.model.specs.Places.{end as none, and}
+use Rattle.forms.proofs.EachForm.{each-at}
 
 unfoldable pub noData : List FieldKind → Bool
 noData [] = true
@@ -22,18 +25,13 @@ pub data Storing (f : Form) : Type 0 where
   never : noData (f .kinds) ≡ true → ((v : List ℕ) → stores (f .make v) ≡ false) → Storing f
   last : f .kinds ≡ storeKinds → ((v : List ℕ) → stores (f .make v) ≡ true) → ((v : List ℕ) → lengthOf (f .make v) ≡ at v 3) → Storing f
 
-pub data Each : List Form → Type 0 where
-  none : Each []
-  and : {f : Form} {fs : List Form} → Storing f → Each fs → Each (f ∷ fs)
+-- its cases are those of `EachForm`, passed on
+abbrev pub Each : List Form → Type 0
+Each = EachForm Storing
 
 pub each : Each forms
 unfolding forms stores lengthOf noData
 each = search (none, and, never, last, refl) depth 40
-
-each-at : (fs : List Form) → Each fs → (p : ℕ) → p < length fs → Storing (getD fs p noForm)
-each-at [] e p h = absurd (omega arith)
-each-at (f ∷ fs) (and s e) zero h = s
-each-at (f ∷ fs) (and s e) (suc p) h = each-at fs e p (omega arith)
 
 pub storing-at : (p : ℕ) → p < calls → Storing (formAt p)
 storing-at p h = each-at forms each p h
