@@ -18,7 +18,7 @@ use Rattle.model.specs.Parts.{partsOf}
 use Rattle.model.specs.Written.{unpadded, rightText, fieldText, fieldTexts, tabbed, written, takesField, takesFields, takes}
 use Rattle.digits.proofs.Decimals.{decimal-short}
 use Rattle.digits.proofs.Hexes.{hex-length}
-use Rattle.forms.specs.Sizes.{mostOf, mostIn}
+use Rattle.forms.specs.Sizes.{mostOf, mostIn, mostBytes}
 
 unpadded-short : (l : List ℕ) → length (unpadded l) ≤ length l
 unfolding unpadded
@@ -53,17 +53,17 @@ texts-short (k ∷ ks) (v ∷ vs) d t =
 
 -- every form, by a test that is computed
 formTest : ℕ → Bool
-formTest p = leb (length (formAt p .word) + mostIn (formAt p .kinds)) 583
+formTest p = leb (length (formAt p .word) + mostIn (formAt p .kinds)) mostBytes
 
 forms-pass : every formTest calls ≡ true
 unfolding formTest every allFrom both forms mostIn mostOf
 forms-pass = refl
 
-pub form-short : (p : ℕ) → p < calls → length (formAt p .word) + mostIn (formAt p .kinds) ≤ 583
+pub form-short : (p : ℕ) → p < calls → length (formAt p .word) + mostIn (formAt p .kinds) ≤ mostBytes
 unfolding formTest
-form-short p h = leb-true _ 583 (every-at formTest calls forms-pass p h)
+form-short p h = leb-true _ mostBytes (every-at formTest calls forms-pass p h)
 
-pub line-short : (q : Request) (d : List ℕ) → takes q d ≡ true → length (written q d) ≤ 583
+pub line-short : (q : Request) (d : List ℕ) → takes q d ≡ true → length (written q d) ≤ mostBytes
 unfolding takes written
 line-short q d t =
     let f = form-short (partsOf q .form) (ltb-true _ calls (both-left _ _ t)) in

@@ -14,3 +14,7 @@ mostOf hex = 514
 unfoldable pub mostIn : List FieldKind → ℕ
 mostIn [] = 0
 mostIn (k ∷ ks) = 1 + mostOf k + mostIn ks
+
+-- the most bytes of a line that is written: the code's `MOST_BYTES`
+abbrev pub mostBytes : ℕ
+mostBytes = 583

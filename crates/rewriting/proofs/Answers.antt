@@ -19,6 +19,7 @@ use Rattle.model.specs.Rewritten.{rewritten}
 use Rattle.model.specs.Written.{written, takes, fits, writeAnswer, bufferAfter}
 use Rattle.digits.specs.Wrote.{Wrote}
 use Rattle.digits.proofs.Writing.{over-none, wrote-none, wrote-more}
+use Rattle.forms.specs.Sizes.{mostBytes}
 use Rattle.forms.proofs.Sizes.{line-short}
 use Rattle.rewriting.proofs.Lent.{lent-takes, lent-written}
 
@@ -41,7 +42,7 @@ done-fitted q d x e = go (takes q d) refl (fits (written q d) x) refl
     go false p u r = let k : _≡_ {A = ℕ} 42 0 = sym (ap₂ (λ t u. number (answerBy t u)) p r) ∙ e in absurd (omega (arith, k))
 
 -- where there is room for any line, only what the writer does not take is refused
-refused : (q : Request) (d x : List ℕ) → 583 ≤ length x → (number (writeAnswer q d x) ≡ 0 → ⊥) → takes q d ≡ false
+refused : (q : Request) (d x : List ℕ) → mostBytes ≤ length x → (number (writeAnswer q d x) ≡ 0 → ⊥) → takes q d ≡ false
 unfolding writeAnswer fits number
 refused q d x room n = go (takes q d) refl
   where
@@ -68,7 +69,7 @@ module _ (l b out y : List ℕ) (p : ℕ) (q : Request) (a : Answer) (read : q �
   written-read = ap (λ (k : Request). written k b) read ∙ lent-written l b stored
 
   -- a line that was written has room behind it for a newline
-  pub line-few : (v : ℕ) → number a ≡ 0 → v ≡ value a → v ≤ 583
+  pub line-few : (v : ℕ) → number a ≡ 0 → v ≡ value a → v ≤ mostBytes
   line-few v e val =
       let f = done-fitted q b lent (ap number (sym answer) ∙ e) in
       let size : v ≡ length (written q b) = val ∙ ap value answer ∙ f .size in

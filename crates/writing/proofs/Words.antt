@@ -12,7 +12,7 @@ use Rattle.forms.specs.Tables.{callNames}
 use Rattle.letters.specs.Words.{afterFirst, wordText}
 use Rattle.digits.specs.Wrote.{Wrote}
 use Rattle.digits.proofs.Writing.{wrote-more, wrote-long}
-use Rattle.forms.specs.Sizes.{mostIn}
+use Rattle.forms.specs.Sizes.{mostIn, mostBytes}
 use Rattle.forms.proofs.Sizes.{form-short}
 
 abbrev Spelt : Form → Type 0
@@ -33,7 +33,7 @@ word-at names p e h = ap (λ l. wordText (getD l p 0)) e ∙ spelt-at forms each
 
 -- a word, and there is room for the fields behind it
 module _ (names : List ℕ) (p : ℕ) (e : names ≡ callNames) (h : p < calls) {o o₁ : List ℕ} {at : ℕ} (w : Wrote o 0 (wordText (getD names p 0)) o₁ at) where
-  pub word-room : 583 ≤ length o → at + mostIn (formAt p .kinds) ≤ length o₁
+  pub word-room : mostBytes ≤ length o → at + mostIn (formAt p .kinds) ≤ length o₁
   word-room l = omega (arith, form-short p h, ap length (word-at names p e h), w .place, wrote-long w)
 
   pub word-then : {o₂ t : List ℕ} {b : ℕ} → Wrote o₁ at t o₂ b → Wrote o 0 (formAt p .word ++ t) o₂ b

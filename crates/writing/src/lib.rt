@@ -8,7 +8,7 @@ ghost use lib.ListN.{length};
 ghost use Rattle.model.specs.Lines.{calls, formAt};
 ghost use Rattle.model.specs.Written.{fieldTexts, tabbed, takesFields, writeAnswer, bufferAfter};
 ghost use Rattle.digits.specs.Wrote.{Wrote};
-ghost use Rattle.forms.specs.Sizes.{mostIn};
+ghost use Rattle.forms.specs.Sizes.{mostIn, mostBytes};
 use model::Answer;
 use model::Request;
 
@@ -50,7 +50,7 @@ fn put_fields(
 }
 
 fn put_line(out: &mut [u8], form: usize, values: [u64; forms::MOST_FIELDS], lent: &[u8]) -> usize
-    requires { ⌜ (form < calls) × (583 ≤ length (now out)) × (takesFields (formAt form .kinds) values (now lent) ≡ true) ⌝ }
+    requires { ⌜ (form < calls) × (mostBytes ≤ length (now out)) × (takesFields (formAt form .kinds) values (now lent) ≡ true) ⌝ }
     ensures { λ r. ⌜ Wrote (now (out .entry)) 0 (formAt form .word ++ tabbed (fieldTexts (formAt form .kinds) values (now (lent .entry)))) (now (out .exit)) r ⌝ }
 {
     let names = forms::call_names();
