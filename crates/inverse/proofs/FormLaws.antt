@@ -1,5 +1,4 @@
--- Each form by itself: its name picks it, a request that it makes has its number and its values, and is in its one form. Assumes
--- nothing.
+-- Each form by itself: its name picks it, a request that it makes has its number and its values, and is canonical. Assumes nothing.
 use Prim.Native.Nat.{ℕ, zero, suc, _+_, _<_}
 use mathlib.Core.Bool.{Bool, true, false}
 use mathlib.Core.List.{List, [], _∷_}
@@ -25,18 +24,18 @@ Picked f = (fs : List (List ℕ)) → readBy forms (f .word) fs ≡ makeBy (f .m
 abbrev Parted : ℕ → Form → Type 0
 Parted p f = (vs : List ℕ) → partsOf (f .make vs) ≡ record { form = p; values = kept (f .kinds) 0 vs }
 
--- and is in its one form
-abbrev Formed : Form → Type 0
-Formed f = (vs : List ℕ) → canonical (f .make vs) ≡ f .make vs
+-- and is canonical
+abbrev MadeCanonical : Form → Type 0
+MadeCanonical f = (vs : List ℕ) → canonical (f .make vs) ≡ f .make vs
 
 pub record Lawful (p : ℕ) (f : Form) : Type 0 where
   pub picked : Picked f
   pub parts : Parted p f
-  pub its-form : Formed f
+  pub made-canonical : MadeCanonical f
   pub word-one : One (f .word)
 
-law : {p : ℕ} {f : Form} → Picked f → Parted p f → Formed f → One (f .word) → Lawful p f
-law a b c d = record { picked = a; parts = b; its-form = c; word-one = d }
+law : {p : ℕ} {f : Form} → Picked f → Parted p f → MadeCanonical f → One (f .word) → Lawful p f
+law a b c d = record { picked = a; parts = b; made-canonical = c; word-one = d }
 
 -- all forms from number p on
 data From : ℕ → List Form → Type 0 where

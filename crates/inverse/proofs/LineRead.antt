@@ -1,5 +1,5 @@
--- A line is not read, or its fields are a form's name and fields whose values the form makes a request of. What was read has its
--- one form. Assumes nothing.
+-- A line is not read, or its fields are a form's name and fields whose values the form makes a request of. What was read is
+-- canonical. Assumes nothing.
 use Prim.Native.Nat.{ℕ, _<_}
 use mathlib.Core.Bool.{Bool, true, false}
 use mathlib.Core.List.{List, [], _∷_}
@@ -38,4 +38,4 @@ read-canonical l = go (line-read l)
   where
     go : LineRead l → canonical (readLine l) ≡ readLine l
     go (unasked e) = rw e
-    go (asked p xs vs h c r m) = rw m (law-at p h .its-form vs)
+    go (asked p xs vs h c r m) = rw m (law-at p h .made-canonical vs)

@@ -1,4 +1,4 @@
--- Each request by itself: its form makes it again, in its one form, from its own values. Assumes nothing.
+-- Each request by itself: its form makes it again, canonical, from its own values. Assumes nothing.
 use Prim.Native.Nat.{ℕ}
 use mathlib.Core.Bool.{true}
 use mathlib.Core.List.{List}
@@ -21,7 +21,7 @@ Shaped q = shaped (formOf q .kinds) (partsOf q .values) ≡ true
 abbrev Remade : Request → Type 0
 Remade q = formOf q .make (partsOf q .values) ≡ canonical q
 
--- its one form has the same parts, and the same data
+-- the canonical request has the same parts, and the same data
 abbrev SameParts : Request → Type 0
 SameParts q = partsOf (canonical q) ≡ partsOf q
 
