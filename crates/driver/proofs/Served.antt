@@ -26,7 +26,7 @@ use Rattle.model.proofs.Steps.{never-21, frames-kept, room-kept}
 use Rattle.driver.specs.Served.{withIssue, issues, Result, result, results, withResult, served, opened, openedBy, opening, freshMachine, runFrom}
 
 -- the machine of a session, after a step
-pub machine-back : (s : Session) (i : Issue) → machineOf (withMachine s (step (machineOf s) i .machine)) ≡ step (machineOf s) i .machine
+machine-back : (s : Session) (i : Issue) → machineOf (withMachine s (step (machineOf s) i .machine)) ≡ step (machineOf s) i .machine
 machine-back s i =
     let m = step (machineOf s) i .machine in
     let f : m .tables .frames ≡ s .tables .frames = frames-kept (machineOf s) i in
@@ -39,7 +39,7 @@ abbrev servedFrom : Turn → List (List ℕ) → List Result
 servedFrom t ls = withResult (t .outcome .request) (result (t .outcome .answer) (t .outcome .moved)) (served (outcomes (t .after) ls))
 
 -- from a done FRAMES on, every call is a step
-pub begun-run : (s : Session) (ls : List (List ℕ)) → s .begun ≡ true → served (outcomes s ls) ≡ results (run (machineOf s) (issues ls))
+begun-run : (s : Session) (ls : List (List ℕ)) → s .begun ≡ true → served (outcomes s ls) ≡ results (run (machineOf s) (issues ls))
 unfolding outcomes served issues run results requestTurn framesTurn withIssue withResult
 begun-run s [] e = refl
 begun-run s (l ∷ ls) e = go (readLine l) (λ t b. begun-run t ls b)

@@ -18,7 +18,7 @@ use Rattle.model.specs.Session.{Session, Turn, requestTurn, lineTurn, lineText,
 use Rattle.model.specs.Written.{takes}
 use Rattle.feeds.specs.Feed.{Work, answers, rewrites, sessionAfter, sayingTo, numberAfter}
 
-pub long-line : (l : List ℕ) → 600 < length l → readLine l ≡ NotRead
+long-line : (l : List ℕ) → 600 < length l → readLine l ≡ NotRead
 unfolding readLine
 long-line l h = no! _ NotRead (lt-leb (length l) 600 h)
 

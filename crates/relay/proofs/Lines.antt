@@ -51,7 +51,7 @@ numbered-next : (f : Feed) (b : ℕ) → Numbered f (says f b) (next f b)
 unfolding next says
 numbered-next f b = numbered-chosen (eqb b 10) f _ refl
 
-pub numbered-join : {f g h : Feed} {x y : List ℕ} → Numbered f x g → Numbered g y h → Numbered f (x ++ y) h
+numbered-join : {f g h : Feed} {x y : List ℕ} → Numbered f x g → Numbered g y h → Numbered f (x ++ y) h
 numbered-join {f} {g} {h} {x} {y} a b =
     record {
       line =

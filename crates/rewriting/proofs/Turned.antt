@@ -21,7 +21,7 @@ use Rattle.rewriting.specs.declared.Rewriting.{Rewriting}
 use Rattle.rewriting.specs.Fed.{feedOf}
 
 -- a line was written where the place after it is another
-pub numbered : (n a b : ℕ) (l o o₁ : List ℕ) → Wrote o a (rewritten l) o₁ b → choose (eqb b a) n (nextLine n) ≡ numberAfter rewrites n l
+numbered : (n a b : ℕ) (l o o₁ : List ℕ) → Wrote o a (rewritten l) o₁ b → choose (eqb b a) n (nextLine n) ≡ numberAfter rewrites n l
 unfolding rewritten
 numbered n a b l o o₁ w = go (takes (readLine l) (dataOf l)) refl
   where
