@@ -57,21 +57,24 @@ withToken l t more = holding 1 l ∷ trial (Add 1 Read) 0 0 2 ∷ done (Mode 1) 
 abbrev pub nameA : ℕ
 nameA = 4692786134070075424
 
+-- guest 1 alone, whose primary space has so many pages from that frame on
+abbrev primaryAt : (F first pages : ℕ) → State
+primaryAt F f n =
+    withSpaces
+    (withGuests (emptyTables F 2) (set (emptyTables F 2 .guests) 0 (record { enrolled = true; allowance = 2; share = true; list = 4; asf = true })))
+    (set (emptyTables F 2 .spaces) 0 (record { id = 1; owner = 1; name = baseName; first = f; pages = n }))
+
 -- P11's start: guest 1 with entry 2 valid for its own space and sequence 255
 unfoldable pub wornTables : State
-wornTables =
-    withEntries
-    (withSpaces
-    (withGuests (emptyTables 8 2) (set (emptyTables 8 2 .guests) 0 (record { enrolled = true; allowance = 2; share = true; list = 4; asf = true })))
-    (set (emptyTables 8 2 .spaces) 0 (record { id = 1; owner = 1; name = baseName; first = 0; pages = 1 })))
-    (set (emptyTables 8 2 .entries) 0 (record { standing = Valid 0 Write; sequence = 255 }))
+wornTables = withEntries (primaryAt 8 0 1) (set (emptyTables 8 2 .entries) 0 (record { standing = Valid 0 Write; sequence = 255 }))
 
 -- "Free frames 0 and 2 of 3": guest 1's primary space has frame 1
 unfoldable pub gapTables : State
-gapTables =
-    withSpaces
-    (withGuests (emptyTables 3 2) (set (emptyTables 3 2 .guests) 0 (record { enrolled = true; allowance = 2; share = true; list = 4; asf = true })))
-    (set (emptyTables 3 2 .spaces) 0 (record { id = 1; owner = 1; name = baseName; first = 1; pages = 1 }))
+gapTables = primaryAt 3 1 1
+
+-- Paper 02, M-103: its primary space has frames 0 and 1
+unfoldable pub pairTables : State
+pairTables = primaryAt 8 0 2
 
 pub record Case : Type 0 where
   pub start : State
