@@ -5,18 +5,15 @@ use mathlib.Core.List.{List, [], _∷_}
 use mathlib.Core.Path.{_≡_, refl, sym, ap, _∙_}
 use native.Mathlib.Omega.{arith}
 use lib.Dec.{eqb}
-use lib.ListN.{length, drop, getD, drop-of-length-le}
+use lib.ListN.{length, getD, drop-of-length-le}
 use borrow.Author.Tests.{eq-eqb, ne-eqb, eqb-true, eqb-false}
 use Rattle.lists.proofs.Choice.{yes!, no! }
 use Rattle.lists.proofs.Parts.{no-elements, drop-next}
 use Rattle.fields.specs.Fields.{firstField, fieldFrom, endFrom}
 
-pub drop-turn : (l : List ℕ) (i : ℕ) → i < length l → drop i l ≡ getD l i 0 ∷ drop (i + 1) l
-drop-turn l i = drop-next l i 0
-
 pub field-step : (l : List ℕ) (i : ℕ) → i < length l → (getD l i 0 ≡ 9 → ⊥) → fieldFrom l i ≡ getD l i 0 ∷ fieldFrom l (i + 1)
 unfolding firstField
-field-step l i h n = ap firstField (drop-turn l i h) ∙ no! _ _ (ne-eqb (getD l i 0) 9 n)
+field-step l i h n = ap firstField (drop-next l i 0 h) ∙ no! _ _ (ne-eqb (getD l i 0) 9 n)
 
 pub past-end : (l : List ℕ) (i : ℕ) → length l ≤ i → fieldFrom l i ≡ []
 unfolding firstField
@@ -24,7 +21,7 @@ past-end l i h = ap firstField (drop-of-length-le l {i = i} h)
 
 pub at-tab : (l : List ℕ) (i : ℕ) → i < length l → getD l i 0 ≡ 9 → fieldFrom l i ≡ []
 unfolding firstField
-at-tab l i h e = ap firstField (drop-turn l i h) ∙ yes! _ _ (eq-eqb (getD l i 0) 9 e)
+at-tab l i h e = ap firstField (drop-next l i 0 h) ∙ yes! _ _ (eq-eqb (getD l i 0) 9 e)
 
 -- as the code tests it
 pub ends-past : (l : List ℕ) (i : ℕ) → length l ≤ i → true ≡ eqb (length (fieldFrom l i)) 0

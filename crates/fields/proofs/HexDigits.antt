@@ -10,14 +10,14 @@ use Rattle.lists.specs.Choice.{both}
 use Rattle.lists.specs.Places.{oneIf}
 use Rattle.lists.proofs.Choice.{not-so, both-yes, both-no}
 use Rattle.lists.proofs.Counts.{uncounted}
+use Rattle.lists.proofs.Parts.{drop-next}
 use Rattle.fields.specs.Fields.{othersInBlock}
-use Rattle.fields.proofs.FieldEnds.{drop-turn}
 use Rattle.model.specs.Lines.{hexDigit, hexDigits}
 
 -- a step, and many steps at once
 hex-turn : (l : List ℕ) (i : ℕ) → i < length l → hexDigits (drop i l) ≡ both (hexDigit (getD l i 0)) (hexDigits (drop (i + 1) l))
 unfolding hexDigits
-hex-turn l i h = ap hexDigits (drop-turn l i h)
+hex-turn l i h = ap hexDigits (drop-next l i 0 h)
 
 pub hex-on : (l : List ℕ) (i : ℕ) → hexDigits (drop i l) ≡ hexDigits l → i < length l → hexDigit (getD l i 0) ≡ true → hexDigits (drop (i + 1) l) ≡ hexDigits l
 hex-on l i e h y = sym (hex-turn l i h ∙ both-yes _ y) ∙ e

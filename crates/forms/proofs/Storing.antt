@@ -7,8 +7,7 @@ use native.Mathlib.Omega.{arith}
 use lib.ListN.{length, getD, drop, length-drop}
 use Rattle.lists.proofs.Choice.{true-false}
 use Rattle.model.specs.Lines.{FieldKind, number, name, right, hex, Form, forms, at, stores, lengthOf, calls, formAt}
-use Rattle.model.specs.Places.{EachForm}
-pub use Rattle.model.specs.Places.{end as none, and}
+use Rattle.model.specs.Places.{EachForm, end, and}
 use Rattle.forms.proofs.EachForm.{each-at}
 
 unfoldable pub noData : List FieldKind → Bool
@@ -25,13 +24,9 @@ pub data Storing (f : Form) : Type 0 where
   never : noData (f .kinds) ≡ true → ((v : List ℕ) → stores (f .make v) ≡ false) → Storing f
   last : f .kinds ≡ storeKinds → ((v : List ℕ) → stores (f .make v) ≡ true) → ((v : List ℕ) → lengthOf (f .make v) ≡ at v 3) → Storing f
 
--- its cases are those of `EachForm`, passed on
-abbrev pub Each : List Form → Type 0
-Each = EachForm Storing
-
-pub each : Each forms
+pub each : EachForm Storing forms
 unfolding forms stores lengthOf noData
-each = search (none, and, never, last, refl) depth 40
+each = search (end, and, never, last, refl) depth 40
 
 pub storing-at : (p : ℕ) → p < calls → Storing (formAt p)
 storing-at p h = each-at forms each p h

@@ -8,9 +8,9 @@ use lib.Dec.{eqb}
 use lib.ListN.{length, drop, length-drop}
 use lib.Seq.{drop-drop, drop-length}
 use Rattle.lists.proofs.Choice.{yes!, no!, both-left, both-right, both-not}
+use Rattle.lists.proofs.Parts.{drop-next}
 use Rattle.model.specs.Lines.{fields, Spelt, is, bad, spelt, hexDigit, hexDigits, hexField, hex, fieldOf, values, unread, andThen, readFields}
 use Rattle.fields.specs.Fields.{firstField, fieldFrom, endFrom}
-use Rattle.fields.proofs.FieldEnds.{drop-turn}
 use Rattle.fields.proofs.Spelling.{tab-no-digit}
 use Rattle.lines.specs.Fields.{following, Last}
 
@@ -42,7 +42,7 @@ end-inside l i h = omega (arith, first-most (drop i l), length-drop i l)
 
 pub following-at : (l : List ℕ) (i : ℕ) → i < length l → following (drop i l) ≡ fields (drop (i + 1) l)
 unfolding following
-following-at l i h = ap following (drop-turn l i h)
+following-at l i h = ap following (drop-next l i 0 h)
 
 -- a last field is all that is left
 fields-none : (l : List ℕ) → fields l ≡ [] → ⊥

@@ -14,9 +14,10 @@ use Rattle.lists.proofs.Choice.{yes!, no!, true-false, both-left, both-right}
 use Rattle.model.specs.declared.Request.{Request}
 use Rattle.model.specs.declared.Request.the-variants.{NotRead}
 use Rattle.model.specs.Lines.{fields, is, hexDigits, hexField, hexBytes, number, hex, fieldOf, Values, values, unread, readFields, Form, forms, at, sameBytes, makeBy, readBy, readAll, readLine, stores, lengthOf, dataOf}
+use Rattle.model.specs.Places.{EachForm, and}
 use Rattle.lines.specs.Fields.{DataAt}
 use Rattle.lines.proofs.Cuts.{last-of-five}
-use Rattle.forms.proofs.Storing.{Storing, never, last, Each, none, and, each}
+use Rattle.forms.proofs.Storing.{Storing, never, last, each}
 use Rattle.fields.proofs.Decoding.{bytes-length}
 use Rattle.fields.proofs.Spelling.{spelt-is}
 use Rattle.lines.proofs.Values.{first-of, none-of}
@@ -50,7 +51,7 @@ store-form f fs s y = go (readFields (f .kinds) fs) refl s y
     go (values vs) q (never _ n) y = true-false y (n vs)
     go (values vs) q (last k _ l) y = rw (l vs) (four-fields fs vs (ap (λ ks. readFields ks fs) (sym k) ∙ q))
 
-store-by : (forms : List Form) → Each forms → (w : List ℕ) (fs : List (List ℕ)) → stores (readBy forms w fs) ≡ true → Store fs (lengthOf (readBy forms w fs))
+store-by : (forms : List Form) → EachForm Storing forms → (w : List ℕ) (fs : List (List ℕ)) → stores (readBy forms w fs) ≡ true → Store fs (lengthOf (readBy forms w fs))
 unfolding readBy stores choose
 store-by [] e w fs y = true-false y refl
 store-by (f ∷ forms) (and s e) w fs y = go (sameBytes (f .word) w) y (store-by forms e w fs)

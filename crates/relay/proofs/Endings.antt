@@ -1,11 +1,12 @@
 -- How the work ends: at the end of the input, and at a read that failed. Assumes nothing.
 use Prim.Native.Nat.{ℕ, _+_, _-_, _≤_, _<_}
 use mathlib.Core.Bool.{Bool, true, false}
-use mathlib.Core.List.{List, [], _∷_}
+use mathlib.Core.List.{List, []}
 use mathlib.Core.Path.{_≡_, refl, sym, ap, _∙_, subst}
 use native.Mathlib.Nat.{mod-eq-of-lt}
 use native.Mathlib.Omega.{arith}
 use lib.ListN.{length, take}
+use Rattle.lists.proofs.Parts.{no-elements}
 use Rattle.descriptors.specs.declared.Got.{Got}
 use Rattle.descriptors.specs.declared.Got.the-variants as got
 use Rattle.model.specs.Session.{newSession}
@@ -93,12 +94,8 @@ run-headed held scratch {how} {line} {taken} {written} {m} e r =
     headed (subst (λ (k : Session). Ran (feedOf k held scratch) 0 0 how line taken written m) e r)
 
 -- lines written again, from the first on
-no-bytes : (m : List ℕ) → length m ≡ 0 → m ≡ []
-no-bytes [] e = refl
-no-bytes (b ∷ m) e = absurd (omega (arith, e))
-
 pub rewrite-from : {s : Session} (held : List ℕ) {how : How} {line taken written : ℕ} {m : List ℕ} → s ≡ opened → length m ≡ 0
     → Ran (feedBy (record { rewrites = true; session = s }) held []) 0 0 how line taken written m → RewroteTo how line taken written
 rewrite-from held {how} {line} {taken} {written} {m} e z r =
-    subst (λ (k : List ℕ). Ran (newRewriting (newSession [])) 0 0 how line taken written k) (no-bytes m z)
+    subst (λ (k : List ℕ). Ran (newRewriting (newSession [])) 0 0 how line taken written k) (no-elements m z)
     (subst (λ (k : Session). Ran (feedBy (record { rewrites = true; session = k }) held []) 0 0 how line taken written m) e r)
