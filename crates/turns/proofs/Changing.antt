@@ -1,4 +1,4 @@
--- A request on whole tables: what waits is a call that asks for these, FRAMES, or what is not read. Assumes nothing.
+-- A request on whole tables: what waits is a call that asks for these, or FRAMES. Assumes nothing.
 use Prim.Native.Nat.{ℕ, _+_, _-_, _*_, _≤_}
 use mathlib.Core.Bool.{Bool, true, false, not}
 use mathlib.Core.List.{List, [], _++_}
@@ -39,6 +39,10 @@ pub waits-here : (h : Host) (room : ℕ) (q : Request) (k : Call) (size : ℕ) �
 waits-here h room q k size e w u =
     let here : Waiting (h .begun) (h .ready) (Asked k size) = subst (Waiting (h .begun) (h .ready)) e w in
     record { size = size; asked = refl; begun = here .0; ready = here .1; asks = here .2; usable = u }
+
+-- what is not read doesn't wait
+pub unread-changed : (h : Host) (m : List ℕ) (q : Request) (r : Changed) → q ≡ NotRead → Waiting (h .begun) (h .ready) q → ChangedTo h m q r m
+unread-changed h m q r e w = absurd (subst (Waiting (h .begun) (h .ready)) e w)
 
 -- the request is what the code has found it to be
 pub known-changed : (h : Host) (m : List ℕ) (q k : Request) (r : Changed) (m' : List ℕ) → q ≡ k → ChangedTo h m k r m' → ChangedTo h m q r m'
@@ -90,23 +94,17 @@ taken-as h m q a t u e b = rw e (record { session = refl; outcome = refl; ready 
 abbrev kept : Host → Request → Answer → Changed
 kept h q a = record { outcome = record { request = q; answer = a; moved = 0 }; begun = h .begun; ready = h .ready; state = h .state }
 
-module _ (h : Host) (m : List ℕ) (q : Request) (r : Changed) (u : h .ready ≡ usable (h .state) (length m)) where
-  -- what is not read
-  pub unread-changed : q ≡ NotRead → r ≡ kept h q LineNotRead → ChangedTo h m q r m
-  unfolding requestTurn
-  unread-changed e y = rw (y, e) (record { unmoved = refl; taken = taken-as h m NotRead LineNotRead _ u refl })
+module _ (h : Host) (m : List ℕ) (q : Request) (r : Changed) (u : h .ready ≡ usable (h .state) (length m)) (count : ℕ) (e : q ≡ Frames count) where
+  -- a FRAMES after a done one
+  pub frames-again : h .begun ≡ true → r ≡ kept h q LineNotRead → ChangedTo h m q r m
+  unfolding requestTurn framesTurn
+  frames-again b y = rw (y, e) (record { unmoved = refl; taken = taken-as h m (Frames count) LineNotRead _ u (yes! _ _ b) })
 
-  module _ (count : ℕ) (e : q ≡ Frames count) where
-    -- a FRAMES after a done one
-    pub frames-again : h .begun ≡ true → r ≡ kept h q LineNotRead → ChangedTo h m q r m
+  module _ (x : Bool) (b : h .begun ≡ false) (is : x ≡ both (leb 1 count) (leb count 8)) where
+    -- a number of frames that no session has
+    pub frames-out : not x ≡ true → r ≡ kept h q (Limit FrameCount 1) → ChangedTo h m q r m
     unfolding requestTurn framesTurn
-    frames-again b y = rw (y, e) (record { unmoved = refl; taken = taken-as h m (Frames count) LineNotRead _ u (yes! _ _ b) })
-
-    module _ (x : Bool) (b : h .begun ≡ false) (is : x ≡ both (leb 1 count) (leb count 8)) where
-      -- a number of frames that no session has
-      pub frames-out : not x ≡ true → r ≡ kept h q (Limit FrameCount 1) → ChangedTo h m q r m
-      unfolding requestTurn framesTurn
-      frames-out f y = rw (y, e) (record { unmoved = refl; taken = taken-as h m (Frames count) (Limit FrameCount 1) _ u (no! _ _ b ∙ no! _ _ (sym is ∙ not-true x f)) })
+    frames-out f y = rw (y, e) (record { unmoved = refl; taken = taken-as h m (Frames count) (Limit FrameCount 1) _ u (no! _ _ b ∙ no! _ _ (sym is ∙ not-true x f)) })
 
 -- a FRAMES that is done: the fresh state, tested
 pub frames-done : (h : Host) (m : List ℕ) (q : Request) (count : ℕ) (x y : Bool) (s : State) → q ≡ Frames count → h .begun ≡ false → x ≡ both (leb 1 count) (leb count 8) → not x ≡ false

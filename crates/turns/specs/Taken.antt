@@ -45,11 +45,12 @@ pub record Taken (t : Turn) (o : Outcome) (b : List ℕ) (h : Host) (m : List �
   pub ready : h .ready ≡ usable (h .state) (length m)
 
 -- Requests on whole tables.
--- what one that is not answered yet finds: a call finds a host that check 1 holds of, and asks for whole tables
+-- what one that is not answered yet finds: a call finds a host that check 1 holds of, and asks for whole tables; what is not
+-- read never waits
 abbrev pub Waiting : (begun ready : Bool) → Request → Type 0
 Waiting b r (request.Frames count) = Unit {0}
 Waiting b r (request.Call k size) = (b ≡ true) × (r ≡ true) × AsksWhole (k .operation)
-Waiting b r request.NotRead = Unit {0}
+Waiting b r request.NotRead = ⊥
 
 -- the call k waits
 pub record CallWaits (h : Host) (room : ℕ) (q : Request) (k : Call) : Type 0 where

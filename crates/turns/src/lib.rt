@@ -240,6 +240,7 @@ pub fn change(h: Host, scratch: &mut [u8], request: Request) -> Changed
     match request {
         Request::Frames { frames: count } => frames(h, scratch, request, count),
         Request::Call { call, .. } => carry(h, scratch, request, call),
+        // what is not read was answered at once: it never waits
         Request::NotRead => refused(h, request, Answer::LineNotRead),
     }
 }
