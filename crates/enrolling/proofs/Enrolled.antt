@@ -27,25 +27,17 @@ use Rattle.model.specs.Decision.{Decision, refuse, check}
 use Rattle.model.specs.Names.{baseName}
 use Rattle.model.specs.Leaves.{inRun}
 use Rattle.model.specs.Replies.{reply, callOf, Carried}
+use Rattle.model.specs.Sound.{IsGuest}
 use Rattle.model.specs.SoundTest.{sound}
 use Rattle.model.specs.Step.{clearFrames}
 use Rattle.model.specs.Tables.{guestPlace, withGuests}
 use Rattle.model.proofs.Rules.{check-yes, check-no}
-use Rattle.enrolling.specs.Enrolling.{mayEnrolIn, wrongOf, kindAt, Decides, EnrolsTo}
+use Rattle.model.proofs.Sound.{may-enrol}
+use Rattle.enrolling.specs.Enrolling.{wrongOf, kindAt, Decides, EnrolsTo}
 use Rattle.making.specs.declared.Placed.{Placed}
 use Rattle.making.specs.declared.Placed.the-variants.{Refused, At}
 use Rattle.making.specs.Placing.{HasTables, PlacedTo}
 use Rattle.making.proofs.Done as making
-
--- check 2
-module _ (gs : List Guest) (g : ℕ) (may : mayEnrolIn gs g ≡ true) where
-  guest-high : g ≤ 8
-  unfolding mayEnrolIn
-  guest-high = leb-true g 8 (both-right (leb 1 g) (leb g 8) (both-left (both (leb 1 g) (leb g 8)) _ may))
-
-  guest-low : 1 ≤ g
-  unfolding mayEnrolIn
-  guest-low = leb-true 1 g (both-left (leb 1 g) (leb g 8) (both-left (both (leb 1 g) (leb g 8)) _ may))
 
 -- the checks of the arguments, over the five tests
 abbrev wrong : (a b c d e : Bool) → ℕ
@@ -89,41 +81,44 @@ module _ (x : Settings) (w : ℕ) (is : w ≡ wrongOf x) (none : w ≡ 0) where
   list-small = omega (arith, leb-true (x .list) 30 (both-right (leb 1 (x .list)) _ (right .3)))
 
 -- the call, on the tables that it looks at
-module _ (F next : ℕ) (ss : List Space) (gs : List Guest) (c : Caller) (x : Settings) (may : Bool) (e : may ≡ mayEnrolIn gs (c .guest)) where
+module _ (F next : ℕ) (ss : List Space) (gs : List Guest) (c : Caller) (x : Settings) (may : Bool) (e : may ≡ mayEnrol gs (c .guest)) where
   abbrev Stops : Answer → Type 0
   Stops a = (s : State) → HasTables s F next ss → s .guests ≡ gs → judge s (callOf c (Enrol x)) 0 ≡ refuse a
 
   pub enrol-caller : not may ≡ true → Stops BadCaller
-  unfolding judge goodCaller enrols choose mayEnrol mayEnrolIn
+  unfolding judge goodCaller enrols choose
   enrol-caller f s h q = check-no _ _ (rw q (sym e ∙ not-true may f))
 
   module _ (f : not may ≡ false) where
-    here : mayEnrolIn gs (c .guest) ≡ true
+    here : mayEnrol gs (c .guest) ≡ true
     here = sym e ∙ not-false may f
 
+    -- check 2
+    is-guest : IsGuest (c .guest)
+    is-guest = may-enrol gs (c .guest) here .0
+
     pub owner-small : c .guest ≤ 8
-    owner-small = guest-high gs (c .guest) here
+    owner-small = is-guest .high
 
     module _ (w : ℕ) (we : w ≡ wrongOf x) where
-      may-enrol : (s : State) → s .guests ≡ gs → mayEnrol s (c .guest) ≡ true
-      unfolding mayEnrol mayEnrolIn
-      may-enrol s q = rw q here
+      enrols-in : (s : State) → s .guests ≡ gs → mayEnrol (s .guests) (c .guest) ≡ true
+      enrols-in s q = rw q here
 
       pub enrol-wrong : (k : Kind) → (w ≡ 0 → ⊥) → k ≡ kindAt w → Stops (Limit k w)
       unfolding judge goodCaller enrols choose arguments checkAll wrongOf
-      enrol-wrong k wn ke s h q = check-yes _ _ (may-enrol s q) ∙ rw (ke, we) (first-wrong _ _ _ _ _ _ (λ z. wn (we ∙ z)))
+      enrol-wrong k wn ke s h q = check-yes _ _ (enrols-in s q) ∙ rw (ke, we) (first-wrong _ _ _ _ _ _ (λ z. wn (we ∙ z)))
 
       passed : w ≡ 0 → (s : State) → s .guests ≡ gs → judge s (callOf c (Enrol x)) 0 ≡ making s (x .pages) (enrolling s (c .guest) x)
       unfolding judge goodCaller enrols choose arguments checkAll perform enrol
       passed z s q =
           let f = right x w we z in
-          check-yes _ _ (may-enrol s q) ∙ check-yes _ _ (f .0) ∙ check-yes _ _ (f .1) ∙ check-yes _ _ (f .2) ∙ check-yes _ _ (f .3) ∙ check-yes _ _ (f .4)
+          check-yes _ _ (enrols-in s q) ∙ check-yes _ _ (f .0) ∙ check-yes _ _ (f .1) ∙ check-yes _ _ (f .2) ∙ check-yes _ _ (f .3) ∙ check-yes _ _ (f .4)
 
       pub enrol-placed : w ≡ 0 → (r : Placed) → PlacedTo F next ss (c .guest) baseName (x .pages) r → EnrolsTo F next ss gs c x r
       enrol-placed z (Refused a) p = λ s h q. passed z s q ∙ p s h (enrolling s (c .guest) x)
       enrol-placed z (At u y) p = (
         sym we ∙ z,
-        λ s h q. record { guest = record { low = guest-low gs (c .guest) here; high = owner-small }; judged = passed z s q; placed = p s h },
+        λ s h q. record { guest = is-guest; judged = passed z s q; placed = p s h },
       )
 
 -- what was decided, in the state that has the tables

@@ -1,6 +1,6 @@
--- ENROL's check 2 and those of its arguments as the code makes them: whether a guest may enrol; the place of the first setting outside its limits, and the kind of the one at a place. And what is decided of ENROL.
+-- The checks of ENROL's arguments as the code makes them: the place of the first setting outside its limits, and the kind of the
+-- one at a place. And what is decided of ENROL.
 use Prim.Native.Nat.{ℕ}
-use mathlib.Core.Bool.{Bool, not}
 use mathlib.Core.List.{List}
 use mathlib.Core.Path.{_≡_}
 use lib.Dec.{leb, eqb}
@@ -15,13 +15,9 @@ use Rattle.model.specs.declared.Space.{Space}
 use Rattle.model.specs.Calls.{enrolling}
 use Rattle.model.specs.Names.{baseName}
 use Rattle.model.specs.Replies.{callOf}
-use Rattle.model.specs.Tables.{guestAt}
 use Rattle.making.specs.declared.Placed.{Placed}
 use Rattle.making.specs.declared.Placed.the-variants.{Refused, At}
 use Rattle.making.specs.Placing.{CallPlacedTo}
-
-unfoldable pub mayEnrolIn : List Guest → (guest : ℕ) → Bool
-mayEnrolIn gs g = both (both (leb 1 g) (leb g 8)) (not (guestAt gs g .enrolled))
 
 -- 0 where all are inside
 unfoldable pub wrongOf : Settings → ℕ

@@ -3,8 +3,8 @@ ghost use Prim.Native.Nat.{_*_, _≤_, _<_};
 ghost use mathlib.Core.Bool.{true};
 ghost use mathlib.Core.Path.{_≡_};
 ghost use lib.ListN.{length};
-ghost use Rattle.enrolling.specs.Enrolling.{mayEnrolIn, wrongOf, kindAt, EnrolsTo};
-ghost use Rattle.model.specs.Calls.{judge, newGuest};
+ghost use Rattle.enrolling.specs.Enrolling.{wrongOf, kindAt, EnrolsTo};
+ghost use Rattle.model.specs.Calls.{judge, mayEnrol, newGuest};
 ghost use Rattle.model.specs.Replies.{callOf, Carried};
 ghost use Rattle.model.specs.SoundTest.{sound};
 ghost use Rattle.model.specs.declared.Operation.the-variants.{Enrol};
@@ -21,7 +21,7 @@ use model::State;
 
 // Whether ENROL may be made for a guest: 1 to 8 and not enrolled.
 fn may_enrol(guests: [Guest; 8], g: u32) -> bool
-    ensures { λ r. ⌜ r ≡ mayEnrolIn guests g ⌝ }
+    ensures { λ r. ⌜ r ≡ mayEnrol guests g ⌝ }
 {
     if g == 0 {
         return false;

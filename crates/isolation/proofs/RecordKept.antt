@@ -47,7 +47,7 @@ module _ (s : State) (m : Memory) (ok : Sound s) (rem : Remembers s m) (c : Call
   performed-told : (k : Operation) (n : ℕ) (d : Decision) → goodCaller s c k ≡ true → AllFit (arguments (s .guests) c k n) → Performed s c k n d
       → Remembers (after s d) (told (deedDone c k (value (d .answer))) m)
   unfolding goodCaller enrols choose arguments AllFit Performed deedDone ownerBy homeBy grantBy tokenBy modeBy loadBy
-  performed-told (Enrol x) n d e fit p = enrol-told s m ok rem (c .guest) x d (may-enrol s (c .guest) e .1) p
+  performed-told (Enrol x) n d e fit p = enrol-told s m ok rem (c .guest) x d (may-enrol (s .guests) (c .guest) e .1) p
   performed-told (Create name pages) n d e fit p = create-told s m ok rem (c .guest) name pages d e p
   performed-told (Destroy id) n d e fit p = destroy-told s m ok rem (c .guest) id d p
   performed-told (Permit id guest right) n d e fit p = permit-told s m ok rem (c .guest) id guest right d (enrolled-guest (s .guests) guest (both-left _ _ (fit .0))) p
@@ -75,7 +75,7 @@ module _ (s : State) (m : Memory) (ok : Sound s) (rem : Remembers s m) (c : Call
 
   performed-rightful : (k : Operation) (n : ℕ) (d : Decision) → goodCaller s c k ≡ true → Performed s c k n d → Rightful m (deedDone c k (value (d .answer)))
   unfolding goodCaller enrols choose Performed deedDone value entitled
-  performed-rightful (Enrol x) n d e p = rw (p .is) (record { guest = λ z. omega (arith, may-enrol s (c .guest) e .0 .low); above = rem .unowned })
+  performed-rightful (Enrol x) n d e p = rw (p .is) (record { guest = λ z. omega (arith, may-enrol (s .guests) (c .guest) e .0 .low); above = rem .unowned })
   performed-rightful (Create name pages) n d e p = rw (p .made .is) (record { guest = λ z. omega (arith, enrolled-guest (s .guests) (c .guest) e .low); above = rem .unowned })
   performed-rightful (Destroy id) n d e p = tt
   performed-rightful (Permit id guest right) n d e p = let f = owner-found id (p .owning .slot) in (f .0, f .1 ∙ p .owning .owner)

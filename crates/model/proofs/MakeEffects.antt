@@ -97,7 +97,7 @@ module _ (s : State) (m : ℕ) (c : Caller) (n : ℕ) where
 
   enrolling : (x : Settings) → Done s m c n (Enrol x) → IsGuest g
   unfolding goodCaller enrols choose
-  enrolling x done = may-enrol s g (all s m c n (Enrol x) done .caller) .0
+  enrolling x done = may-enrol (s .guests) g (all s m c n (Enrol x) done .caller) .0
 
   pub enrol-does : (x : Settings) → Done s m c n (Enrol x) → EnrolEffect s g x (by s m c n (Enrol x))
   unfolding Performed newGuest newSpace

@@ -11,6 +11,7 @@ use Rattle.lists.proofs.Choice.{both-left, both-right, both-intro, not-to}
 use Rattle.lists.proofs.Bytes.{length-put, length-get}
 use Rattle.model.specs.declared.Call.{Call}
 use Rattle.model.specs.declared.Caller.{Caller}
+use Rattle.model.specs.declared.Guest.{Guest}
 use Rattle.model.specs.declared.Operation.{Operation}
 use Rattle.model.specs.declared.Operation.the-variants.{Enrol, Create, Destroy, Permit, Isolate, Query, Add, Remove, Load, Mode, Fetch, Store, Reset, Key, Block}
 use Rattle.model.specs.declared.State.{State}
@@ -37,9 +38,9 @@ use Rattle.model.proofs.SoundTest.{sound-decides}
 use Rattle.model.proofs.Verdict.{verdict}
 
 -- check 2 of ENROL
-pub may-enrol : (s : State) (g : ℕ) → mayEnrol s g ≡ true → IsGuest g × (guestAt (s .guests) g .enrolled ≡ false)
+pub may-enrol : (gs : List Guest) (g : ℕ) → mayEnrol gs g ≡ true → IsGuest g × (guestAt gs g .enrolled ≡ false)
 unfolding mayEnrol
-may-enrol s g e =
+may-enrol gs g e =
     let r = both-left (both (leb 1 g) (leb g 8)) _ e in
     (record { low = leb-true 1 g (both-left (leb 1 g) (leb g 8) r); high = leb-true g 8 (both-right (leb 1 g) (leb g 8) r) }, not-to _ (both-right (both (leb 1 g) (leb g 8)) _ e))
 
@@ -47,7 +48,7 @@ may-enrol s g e =
 performed-sound : (s : State) (c : Caller) (k : Operation) (n : ℕ) (d : Decision) → Sound s → goodCaller s c k ≡ true → AllFit (arguments (s .guests) c k n) → Performed s c k n d → Sound (after s d)
 unfolding goodCaller enrols choose arguments AllFit Performed
 performed-sound s c (Enrol x) n d ok e fit p =
-    let m = may-enrol s (c .guest) e in
+    let m = may-enrol (s .guests) (c .guest) e in
     sound-enrol s (c .guest) x d ok (m .0) (m .1) (leb-true 1 (x .pages) (both-left _ _ (fit .0))) (leb-true (x .allowance) 31 (fit .1 .0))
     (leb-true 1 (x .list) (both-left _ _ (fit .1 .1 .1 .0))) (leb-true (x .list) 30 (both-right (leb 1 (x .list)) _ (fit .1 .1 .1 .0))) p
 performed-sound s c (Create name pages) n d ok e fit p = sound-create s (c .guest) name pages d ok e (fit .0) (leb-true 1 pages (both-left _ _ (fit .1 .0))) p

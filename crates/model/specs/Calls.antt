@@ -3,6 +3,7 @@
 -- number for them, ".." stands here, and the numbers are those of paper 02, M-102.
 use Prim.Native.Nat.{ℕ, _+_, _*_, _/_}
 use mathlib.Core.Bool.{Bool, true, false, not}
+use mathlib.Core.List.{List}
 use lib.Dec.{leb, ltb, eqb}
 use Rattle.lists.specs.Choice.{choose, both, either, implies}
 use Rattle.model.specs.declared.Answer.the-variants.{Unsound, BadCaller, NameTaken, NoSpace, NotOwner, NoSharing, AllowanceUsed, SlotsUsed, NoRun, NoIdentification, NotPermitted, ListFull, AletSpecification, AlenTranslation, Addressing, Protection, SpecialOperation, PrimarySpace, KeyProtection}
@@ -212,11 +213,11 @@ perform s c (Block id address key mark) n = block s (c .guest) id address key ma
 unfoldable pub enrols : Operation → Bool
 enrols k = classOf k .enrols
 
-unfoldable pub mayEnrol : State → (guest : ℕ) → Bool
-mayEnrol s g = both (both (leb 1 g) (leb g guestCount)) (not (guestAt (s .guests) g .enrolled))
+unfoldable pub mayEnrol : List Guest → (guest : ℕ) → Bool
+mayEnrol gs g = both (both (leb 1 g) (leb g guestCount)) (not (guestAt gs g .enrolled))
 
 unfoldable pub goodCaller : State → Caller → Operation → Bool
-goodCaller s c k = choose (enrols k) (mayEnrol s (c .guest)) (enrolled (s .guests) (c .guest))
+goodCaller s c k = choose (enrols k) (mayEnrol (s .guests) (c .guest)) (enrolled (s .guests) (c .guest))
 
 -- Check 2, the checks of the arguments, and the call: what a caller that holds a sound state and its scratch is answered.
 unfoldable pub judge : State → Call → (buffer : ℕ) → Decision
