@@ -3,7 +3,7 @@ use Prim.Native.Nat.{ℕ, _<_}
 use mathlib.Core.List.{List}
 use mathlib.Core.Path.{_≡_, refl, sym, ap, subst, _∙_}
 use lib.Dec.{eqb, ltb}
-use borrow.Author.Tests.{ltb-true, eqb-true}
+use borrow.Author.Tests.{ltb-true}
 use Rattle.lists.specs.Choice.{choose}
 use Rattle.lists.proofs.Choice.{yes!, choose-elim, choose-eq}
 use Rattle.model.specs.declared.Answer.{Answer}
@@ -29,7 +29,6 @@ checked ss g i d = check (ltb (slotOf ss i) 32) NoSpace (check (eqb (spaceAt ss 
 record Owns (ss : List Space) (g i u : ℕ) : Type 0 where
   slot : u ≡ slotOf ss i
   low : u < 32
-  owner : spaceAt ss u .owner ≡ g
   passes : (d : Decision) → checked ss g i d ≡ d
 
 module _ (ss : List Space) (g i : ℕ) where
@@ -42,7 +41,7 @@ module _ (ss : List Space) (g i : ℕ) where
   told =
       choose-elim Told (ltb (slotOf ss i) 32) _ _
       (λ l. choose-elim Told (eqb (spaceAt ss (slotOf ss i) .owner) g) _ _
-      (λ m. record { slot = refl; low = ltb-true _ 32 l; owner = eqb-true _ g m; passes = λ d. check-yes _ _ l ∙ check-yes _ _ m })
+      (λ m. record { slot = refl; low = ltb-true _ 32 l; passes = λ d. check-yes _ _ l ∙ check-yes _ _ m })
       (λ m d. check-yes _ _ l ∙ check-no _ _ m))
       (λ l d. check-no _ _ l)
 
@@ -56,9 +55,6 @@ module _ (ss : List Space) (g i : ℕ) where
 
     pub owned-low : u < 32
     owned-low = owns .low
-
-    pub owned-owner : spaceAt ss u .owner ≡ g
-    owned-owner = owns .owner
 
 -- what stands in the row of a slot is what stands in the slot, where there is one
 pub owned-row : (ss : List Space) (u x g : ℕ) (r : Owned) → u ≡ x → r ≡ ownedAt u (spaceAt ss (slotRow u)) g → r ≡ ownedAt x (spaceAt ss x) g

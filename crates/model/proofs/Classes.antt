@@ -3,14 +3,14 @@ use Prim.Native.Nat.{ℕ}
 use mathlib.Core.Bool.{true, false}
 use mathlib.Core.List.{List, [], _∷_, map}
 use mathlib.Core.Logic.{inl, inr}
-use mathlib.Core.Path.{_≡_, refl, sym, ap, _∙_}
+use mathlib.Core.Path.{_≡_, refl, ap, _∙_}
 use native.Mathlib.Omega.{arith}
 use lib.ListN.{getD, drop}
 use denote.Enum.Declared.{tagOf}
 use types.Run.{OneOf}
 use Rattle.model.specs.declared.Operation.{Operation}
 use Rattle.model.specs.declared.Operation.the-variants.{Enrol, Create, Destroy, Permit, Isolate, Query, Add, Remove, Load, Mode, Fetch, Store, Reset, Key, Block}
-use Rattle.model.specs.Classes.{Moves, noBytes, fromSpace, toSpace, Shows, noValue, itsValue, itsBytes, Class, class, classOf, storesBytes, isStore}
+use Rattle.model.specs.Classes.{Moves, noBytes, fromSpace, toSpace, Shows, noValue, itsValue, itsBytes, Class, class, classOf}
 use Rattle.model.proofs.Operation as operation
 
 abbrev pub place : Operation → ℕ
@@ -21,11 +21,6 @@ abbrev plain : Moves → Moves
 plain noBytes = noBytes
 plain (fromSpace r a) = fromSpace 0 0
 plain (toSpace r a) = toSpace 0 0
-
-plain-stores : (v : Moves) → storesBytes (plain v) ≡ storesBytes v
-plain-stores noBytes = refl
-plain-stores (fromSpace r a) = refl
-plain-stores (toSpace r a) = refl
 
 plain-none : (v : Moves) → plain v ≡ noBytes → v ≡ noBytes
 plain-none noBytes e = refl
@@ -73,16 +68,10 @@ at-one-of {A} f a (k ∷ []) h x p = ap f p ∙ ap (λ (l : List A). getD l 0 a)
 at-one-of {A} f a (k ∷ l ∷ ks) h x (inl p) = ap f p ∙ ap (λ (l : List A). getD l 0 a) h
 at-one-of {A} f a (k ∷ l ∷ ks) h x (inr p) = at-one-of f a (l ∷ ks) (ap (λ (l : List A). drop 1 l) h) x p
 
--- a call at one of these places: what it shows, that it moves nothing, that it stores nothing
+-- a call at one of these places: what it shows, that it moves nothing
 module _ (ks : List ℕ) (o : Operation) (p : OneOf ks (place o)) where
   pub shows-at : (v : Shows) → AllAt (λ t. classAt t .shows) v ks → classOf o .shows ≡ v
   shows-at v h = ap (λ (c : Class). c .shows) (class-at o) ∙ at-one-of (λ t. classAt t .shows) v ks h (place o) p
 
   pub unmoving-at : AllAt (λ t. classAt t .moves) noBytes ks → classOf o .moves ≡ noBytes
   unmoving-at h = plain-none _ (ap (λ (c : Class). c .moves) (class-at o) ∙ at-one-of (λ t. classAt t .moves) noBytes ks h (place o) p)
-
-  pub unstoring-at : AllAt (λ t. storesBytes (classAt t .moves)) false ks → isStore o ≡ false
-  unstoring-at h =
-      sym (plain-stores (classOf o .moves))
-      ∙ ap (λ (c : Class). storesBytes (c .moves)) (class-at o)
-      ∙ at-one-of (λ t. storesBytes (classAt t .moves)) false ks h (place o) p

@@ -18,9 +18,8 @@ use Rattle.model.specs.declared.Guest.{Guest}
 use Rattle.model.specs.declared.Space.{Space}
 use Rattle.model.specs.declared.Standing.{Standing}
 use Rattle.model.specs.declared.Standing.the-variants.{Unused, Valid, Revoked}
-use Rattle.model.specs.Frames.{Layout}
 use Rattle.model.specs.Searches.{enrolled, isSpace, isOwned, isNamed, isPrimary, slotOf, slotNamed, primarySlot, primaries, isUnused}
-use Rattle.model.specs.Sound.{Live, IsGuest, SpacesOk}
+use Rattle.model.specs.Sound.{Live, IsGuest}
 use Rattle.model.specs.Tables.{noSpace, spaceAt, live, guestAt}
 
 -- live spaces
@@ -68,16 +67,9 @@ module _ (ss : List Space) where
   is-space-to : (i u : ℕ) → isSpace i (spaceAt ss u) ≡ true → Live ss u × (spaceAt ss u .id ≡ i)
   is-space-to i u e = (live-to (spaceAt ss u) (both-left _ _ e), eqb-true _ i (both-right (live (spaceAt ss u)) _ e))
 
-  is-space-of : (u : ℕ) → Live ss u → isSpace (spaceAt ss u .id) (spaceAt ss u) ≡ true
-  is-space-of u l = both-intro _ _ (live-of (spaceAt ss u) l) (eq-eqb (spaceAt ss u .id) _ refl)
-
   pub slot-found : (i : ℕ) → slotOf ss i < 32 → Live ss (slotOf ss i) × (spaceAt ss (slotOf ss i) .id ≡ i)
   unfolding slotOf
   slot-found i h = is-space-to i (slotOf ss i) (lowest-holds (λ u. isSpace i (spaceAt ss u)) 32 h)
-
-  pub slot-lt : (u : ℕ) → u < 32 → Live ss u → slotOf ss (spaceAt ss u .id) < 32
-  unfolding slotOf
-  slot-lt u h l = omega (arith, lowest-bound (λ v. isSpace (spaceAt ss u .id) (spaceAt ss v)) 32 u (is-space-of u l))
 
   -- a space by its owner and name
   is-named-to : (g n u : ℕ) → isNamed g n (spaceAt ss u) ≡ true → Live ss u × (spaceAt ss u .owner ≡ g) × (spaceAt ss u .name ≡ n)
@@ -100,13 +92,6 @@ module _ (ss : List Space) where
   pub primary-lt : (g : ℕ) → primaries ss g ≡ 1 → primarySlot ss g < 32
   unfolding primaries primarySlot slotNamed
   primary-lt g e = count-found (λ u. isPrimary g (spaceAt ss u)) 32 (omega arith)
-
--- in a sound state an identification names one slot
-pub slot-of : (F next : ℕ) (gs : List Guest) (ss : List Space) (l : Layout) → SpacesOk F next gs ss l → (u : ℕ) → Live ss u → slotOf ss (spaceAt ss u .id) ≡ u
-slot-of F next gs ss l ok u h =
-    let b : u < 32 = live-slot ss u 32 (ok .len) h in
-    let f = slot-found ss (spaceAt ss u .id) (slot-lt ss u b h) in
-    ok .id-own (slotOf ss (spaceAt ss u .id)) u (f .0) h (f .1)
 
 -- an unused standing
 pub unused-is : (x : Standing) → isUnused x ≡ true → x ≡ Unused
