@@ -43,11 +43,11 @@ module _ (s : State) (owner name pages u : ℕ) (x : Space) (m : List ℕ) (at :
     made-is : applied s c ≡ t
     made-is = to ∙ rw (at .slot, at .space) refl
 
-    at-slot : spaceAt (t .spaces) u ≡ x
-    at-slot = getD-set-same (s .spaces) u x noSpace (rw (sound-decides s .to ok .spaces .len) (at .low))
+    slot-holds : spaceAt (t .spaces) u ≡ x
+    slot-holds = getD-set-same (s .spaces) u x noSpace (rw (sound-decides s .to ok .spaces .len) (at .low))
 
     frames-are : inRun (x .first) (x .pages) ≡ hasFrame (layout t) (t .spaces) u
-    frames-are = fun-ext (λ f. sym (has-run (t .spaces) u f ∙ ap (λ (y : Space). inRun (y .first) (y .pages) f) at-slot))
+    frames-are = fun-ext (λ f. sym (has-run (t .spaces) u f ∙ ap (λ (y : Space). inRun (y .first) (y .pages) f) slot-holds))
 
     made : (m' : List ℕ) → m' ≡ clearFrames (inRun (x .first) (x .pages)) m → Carried s (making s pages c) (reply (Done (s .next)) t) m m'
     unfolding making replied scratchAfter
