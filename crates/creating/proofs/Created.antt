@@ -19,7 +19,6 @@ use Rattle.model.specs.declared.Space.{Space}
 use Rattle.model.specs.declared.State.{State}
 use Rattle.model.specs.Arguments.{arguments, checkAll}
 use Rattle.model.specs.Calls.{create, creating, making, perform, enrols, goodCaller, judge}
-use Rattle.model.specs.Decision.{refuse}
 use Rattle.model.specs.Leaves.{callerPlace}
 use Rattle.model.specs.Names.{goodName}
 use Rattle.model.specs.Replies.{callOf}
@@ -29,11 +28,11 @@ use Rattle.model.proofs.Rules.{check-yes, check-no, place-yes, place-no, place-
 use Rattle.model.proofs.Searches.{enrolled-guest}
 use Rattle.making.specs.declared.Placed.{Placed}
 use Rattle.making.specs.declared.Placed.the-variants.{Refused, At}
-use Rattle.making.specs.Placing.{HasTables, PlacedTo, CallPlacedTo}
+use Rattle.making.specs.Placing.{HasTables, PlacedTo, CallNotPlaced, CallPlacedTo}
 
 module _ (F next : ℕ) (ss : List Space) (gs : List Guest) (c : Caller) (name pages at : ℕ) (e : at ≡ callerPlace gs (c .guest)) where
   abbrev Stops : Answer → Type 0
-  Stops a = (s : State) → HasTables s F next ss → s .guests ≡ gs → judge s (callOf c (Create name pages)) 0 ≡ refuse a
+  Stops = CallNotPlaced F next ss gs (callOf c (Create name pages))
 
   -- check 2
   pub create-caller : 8 ≤ at → Stops BadCaller
@@ -52,15 +51,15 @@ module _ (F next : ℕ) (ss : List Space) (gs : List Guest) (c : Caller) (name p
       create-name ng s h q = check-yes _ _ (rw q (place-yes at gs (c .guest) e l)) ∙ check-no _ _ (sym g ∙ not-true good ng)
 
       module _ (ng : not good ≡ false) where
-        wrong-pages : (s : State) → s .guests ≡ gs → both (leb 1 pages) (leb pages 512) ≡ false → judge s (callOf c (Create name pages)) 0 ≡ refuse (Limit Pages 3)
+        wrong-pages : both (leb 1 pages) (leb pages 512) ≡ false → Stops (Limit Pages 3)
         unfolding judge goodCaller enrols choose arguments checkAll
-        wrong-pages s q p = check-yes _ _ (rw q (place-yes at gs (c .guest) e l)) ∙ check-yes _ _ (sym g ∙ not-false good ng) ∙ check-no _ _ p
+        wrong-pages p s h q = check-yes _ _ (rw q (place-yes at gs (c .guest) e l)) ∙ check-yes _ _ (sym g ∙ not-false good ng) ∙ check-no _ _ p
 
         pub create-none : pages ≡ 0 → Stops (Limit Pages 3)
-        create-none z s h q = wrong-pages s q (both-no _ (lt-leb 1 pages (omega arith)))
+        create-none z = wrong-pages (both-no _ (lt-leb 1 pages (omega arith)))
 
         pub create-many : 512 < pages → Stops (Limit Pages 3)
-        create-many m s h q = wrong-pages s q (both-not (leb 1 pages) _ (lt-leb pages 512 m))
+        create-many m = wrong-pages (both-not (leb 1 pages) _ (lt-leb pages 512 m))
 
         -- its own checks
         module _ (p0 : pages ≡ 0 → ⊥) (p1 : pages ≤ 512) where

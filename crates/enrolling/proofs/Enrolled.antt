@@ -10,7 +10,6 @@ use lib.ListN.{set}
 use borrow.Author.Tests.{leb-true, not-true, not-false}
 use Rattle.lists.specs.Choice.{choose, both}
 use Rattle.lists.proofs.Choice.{both-left, both-right}
-use Rattle.model.specs.declared.Answer.{Answer}
 use Rattle.model.specs.declared.Answer.the-variants.{Done, BadCaller, Limit}
 use Rattle.model.specs.declared.Caller.{Caller}
 use Rattle.model.specs.declared.Guest.{Guest}
@@ -36,7 +35,7 @@ use Rattle.model.proofs.Sound.{may-enrol}
 use Rattle.enrolling.specs.Enrolling.{wrongOf, kindAt, Decides, EnrolsTo}
 use Rattle.making.specs.declared.Placed.{Placed}
 use Rattle.making.specs.declared.Placed.the-variants.{Refused, At}
-use Rattle.making.specs.Placing.{HasTables, PlacedTo}
+use Rattle.making.specs.Placing.{PlacedTo, CallNotPlaced}
 use Rattle.making.proofs.Done as making
 
 -- the checks of the arguments, over the five tests
@@ -82,10 +81,7 @@ module _ (x : Settings) (w : ℕ) (is : w ≡ wrongOf x) (none : w ≡ 0) where
 
 -- the call, on the tables that it looks at
 module _ (F next : ℕ) (ss : List Space) (gs : List Guest) (c : Caller) (x : Settings) (may : Bool) (e : may ≡ mayEnrol gs (c .guest)) where
-  abbrev Stops : Answer → Type 0
-  Stops a = (s : State) → HasTables s F next ss → s .guests ≡ gs → judge s (callOf c (Enrol x)) 0 ≡ refuse a
-
-  pub enrol-caller : not may ≡ true → Stops BadCaller
+  pub enrol-caller : not may ≡ true → CallNotPlaced F next ss gs (callOf c (Enrol x)) BadCaller
   unfolding judge goodCaller enrols choose
   enrol-caller f s h q = check-no _ _ (rw q (sym e ∙ not-true may f))
 
@@ -104,7 +100,7 @@ module _ (F next : ℕ) (ss : List Space) (gs : List Guest) (c : Caller) (x : Se
       enrols-in : (s : State) → s .guests ≡ gs → mayEnrol (s .guests) (c .guest) ≡ true
       enrols-in s q = rw q here
 
-      pub enrol-wrong : (k : Kind) → (w ≡ 0 → ⊥) → k ≡ kindAt w → Stops (Limit k w)
+      pub enrol-wrong : (k : Kind) → (w ≡ 0 → ⊥) → k ≡ kindAt w → CallNotPlaced F next ss gs (callOf c (Enrol x)) (Limit k w)
       unfolding judge goodCaller enrols choose arguments checkAll wrongOf
       enrol-wrong k wn ke s h q = check-yes _ _ (enrols-in s q) ∙ rw (ke, we) (first-wrong _ _ _ _ _ _ (λ z. wn (we ∙ z)))
 

@@ -3,29 +3,23 @@ use Prim.Native.Nat.{ℕ, _≤_, _<_}
 use mathlib.Core.List.{List}
 use mathlib.Core.Path.{_≡_, refl, sym, ap, _∙_}
 use Rattle.lookup.proofs.Rules.{found-no, found-yes}
-use Rattle.model.specs.declared.Answer.{Answer}
 use Rattle.model.specs.declared.Answer.the-variants.{SlotsUsed, NoIdentification, NoRun}
-use Rattle.model.specs.declared.Change.{Change}
 use Rattle.model.specs.declared.Space.{Space}
 use Rattle.model.specs.declared.State.{State}
 use Rattle.model.specs.Calls.{making, newSpace}
-use Rattle.model.specs.Decision.{refuse}
 use Rattle.model.specs.Searches.{freeSlot, freeRun, runIn}
 use Rattle.model.proofs.Rules.{check-yes, check-no}
-use Rattle.making.specs.Placing.{HasTables, PlacedAt}
+use Rattle.making.specs.Placing.{HasTables, PlacedAt, NotPlaced}
 
 module _ (F next : ℕ) (ss : List Space) (n slot : ℕ) (slot-is : slot ≡ freeSlot ss) where
-  abbrev Stops : Answer → Type 0
-  Stops a = (s : State) → HasTables s F next ss → (c : Change) → making s n c ≡ refuse a
-
   slot-in : (s : State) → HasTables s F next ss → slot ≡ freeSlot (s .spaces)
   slot-in s h = slot-is ∙ ap freeSlot (sym (h .spaces))
 
-  pub no-slot : 32 ≤ slot → Stops SlotsUsed
+  pub no-slot : 32 ≤ slot → NotPlaced F next ss n SlotsUsed
   unfolding making
   no-slot l s h c = check-no _ _ (found-no slot _ 32 (slot-in s h) l)
 
-  pub spent : slot < 32 → 65536 ≤ next → Stops NoIdentification
+  pub spent : slot < 32 → 65536 ≤ next → NotPlaced F next ss n NoIdentification
   unfolding making
   spent l p s h c = check-yes _ _ (found-yes slot _ 32 (slot-in s h) l) ∙ check-no _ _ (found-no next _ 65536 (sym (h .next)) p)
 
@@ -33,7 +27,7 @@ module _ (F next : ℕ) (ss : List Space) (n slot : ℕ) (slot-is : slot ≡ fre
     first-in : (s : State) → HasTables s F next ss → first ≡ freeRun s n
     first-in s h = rw (h .frames, h .spaces) first-is
 
-    pub no-run : F ≤ first → Stops NoRun
+    pub no-run : F ≤ first → NotPlaced F next ss n NoRun
     unfolding making
     no-run q s h c =
         check-yes _ _ (found-yes slot _ 32 (slot-in s h) l)
