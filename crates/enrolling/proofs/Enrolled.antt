@@ -73,10 +73,10 @@ module _ (x : Settings) (w : ℕ) (is : w ≡ wrongOf x) (none : w ≡ 0) where
   pub pages-high : x .pages ≤ 512
   pages-high = leb-true (x .pages) 512 (both-right (leb 1 (x .pages)) _ (right .0))
 
-  pub allowance-small : x .allowance < 256
+  allowance-small : x .allowance < 256
   allowance-small = omega (arith, leb-true (x .allowance) 31 (right .1))
 
-  pub list-small : x .list < 256
+  list-small : x .list < 256
   list-small = omega (arith, leb-true (x .list) 30 (both-right (leb 1 (x .list)) _ (right .3)))
 
 -- the call, on the tables that it looks at
