@@ -9,7 +9,7 @@ use Rattle.model.specs.declared.Operation.the-variants.{Enrol, Create, Destroy,
 use Rattle.model.specs.declared.Right.{Right}
 use Rattle.model.specs.Classes.{noBytes, classOf}
 use Rattle.model.specs.Replies.{replied}
-use Rattle.model.proofs.Classes.{place, unmoving-at}
+use Rattle.model.proofs.Classes.{place}
 use Rattle.access.specs.Access.{Fetches, Stores}
 use Rattle.lookup.specs.declared.Owned.{Owned}
 use Rattle.lookup.specs.declared.Owned.the-variants.{At, Refused}
@@ -21,7 +21,7 @@ use Rattle.edits.proofs.Kept.{carried-reply}
 use Rattle.views.specs.declared.View.{View}
 use Rattle.deciding.specs.declared.Decision.{Decision}
 use Rattle.deciding.specs.declared.Decision.the-variants.{Made, Closes, NeedsTables}
-use Rattle.deciding.specs.Decisions.{whole, AsksWhole, DecidedTo}
+use Rattle.deciding.specs.Decisions.{AsksWhole, enrols, creates, destroys, resets, DecidedTo}
 use Rattle.deciding.proofs.Served.{still, fetched, stored}
 use Rattle.deciding.proofs.Touches.{touch, Unmoving, LeavesScratch, LeavesBuffer}
 
@@ -100,31 +100,43 @@ isolate-closes v o m b id w u is t q =
       carried = record { served = λ s c ok seen. still s c (Isolate id) m b tt tt tt _ (ap (replied s) (sym (h .decided .is s c ok seen))) };
     })
 
--- The calls that ask for whole tables: nothing has been done yet.
-pub not-yet : (v : View) (o : Operation) (m b : List ℕ) → AsksWhole o → DecidedTo v o m b NeedsTables m b
-not-yet v o m b h = record { asks = h; scratch = refl; buffer = refl }
+-- The calls that ask for whole tables, by their places in the enum: nothing has been done yet.
+abbrev pub whole : List ℕ
+whole = 0 ∷ 1 ∷ 2 ∷ 12 ∷ []
+
+asks-whole : (o : Operation) → OneOf whole (place o) → AsksWhole o
+asks-whole (Enrol x) h = enrols x
+asks-whole (Create name pages) h = creates name pages
+asks-whole (Destroy id) h = destroys id
+asks-whole (Permit id guest right) h = absurd (miss whole 3 tt h)
+asks-whole (Isolate id) h = absurd (miss whole 4 tt h)
+asks-whole (Query owner name) h = absurd (miss whole 5 tt h)
+asks-whole (Add id right) h = absurd (miss whole 6 tt h)
+asks-whole (Remove token) h = absurd (miss whole 7 tt h)
+asks-whole (Load register value) h = absurd (miss whole 8 tt h)
+asks-whole (Mode mode) h = absurd (miss whole 9 tt h)
+asks-whole (Fetch register address) h = absurd (miss whole 10 tt h)
+asks-whole (Store register address) h = absurd (miss whole 11 tt h)
+asks-whole Reset h = resets
+asks-whole (Key key) h = absurd (miss whole 13 tt h)
+asks-whole (Block id address key mark) h = absurd (miss whole 14 tt h)
+
+pub not-yet : (v : View) (o : Operation) (m b : List ℕ) → OneOf whole (place o) → DecidedTo v o m b NeedsTables m b
+not-yet v o m b h = record { asks = asks-whole o h; scratch = refl; buffer = refl }
 
 -- they move no bytes
 pub whole-unmoving : (o : Operation) → AsksWhole o → classOf o .moves ≡ noBytes
-whole-unmoving o h = unmoving-at whole o h refl
+whole-unmoving _ (enrols x) = refl
+whole-unmoving _ (creates name pages) = refl
+whole-unmoving _ (destroys id) = refl
+whole-unmoving _ resets = refl
 
 -- and the one that is none of the first three places is RESET
 abbrev pub later : List ℕ
 later = 3 ∷ 4 ∷ 5 ∷ 6 ∷ 7 ∷ 8 ∷ 9 ∷ 10 ∷ 11 ∷ 12 ∷ 13 ∷ 14 ∷ []
 
 pub whole-reset : (o : Operation) → AsksWhole o → OneOf later (place o) → o ≡ Reset
-whole-reset (Enrol x) h l = absurd (miss later 0 tt l)
-whole-reset (Create name pages) h l = absurd (miss later 1 tt l)
-whole-reset (Destroy id) h l = absurd (miss later 2 tt l)
-whole-reset (Permit id guest right) h l = absurd (miss whole 3 tt h)
-whole-reset (Isolate id) h l = absurd (miss whole 4 tt h)
-whole-reset (Query owner name) h l = absurd (miss whole 5 tt h)
-whole-reset (Add id right) h l = absurd (miss whole 6 tt h)
-whole-reset (Remove token) h l = absurd (miss whole 7 tt h)
-whole-reset (Load register value) h l = absurd (miss whole 8 tt h)
-whole-reset (Mode mode) h l = absurd (miss whole 9 tt h)
-whole-reset (Fetch register address) h l = absurd (miss whole 10 tt h)
-whole-reset (Store register address) h l = absurd (miss whole 11 tt h)
-whole-reset Reset h l = refl
-whole-reset (Key key) h l = absurd (miss whole 13 tt h)
-whole-reset (Block id address key mark) h l = absurd (miss whole 14 tt h)
+whole-reset _ (enrols x) l = absurd (miss later 0 tt l)
+whole-reset _ (creates name pages) l = absurd (miss later 1 tt l)
+whole-reset _ (destroys id) l = absurd (miss later 2 tt l)
+whole-reset _ resets l = refl

@@ -1,20 +1,20 @@
 -- What becomes of a call on what it has seen of the tables. `m` is scratch, `b` the call's buffer.
 use Prim.Native.Nat.{ℕ, _<_}
 use mathlib.Core.Bool.{true}
-use mathlib.Core.List.{List, [], _∷_}
+use mathlib.Core.List.{List}
 use mathlib.Core.Path.{_≡_}
-use types.Run.{OneOf}
 use Rattle.model.specs.declared.Answer.{Answer}
 use Rattle.model.specs.declared.Answer.the-variants.{Done}
 use Rattle.model.specs.declared.Caller.{Caller}
 use Rattle.model.specs.declared.Change.{Change}
 use Rattle.model.specs.declared.Change.the-variants.{IsolateSpace}
 use Rattle.model.specs.declared.Operation.{Operation}
+use Rattle.model.specs.declared.Operation.the-variants.{Enrol, Create, Destroy, Reset}
+use Rattle.model.specs.declared.Settings.{Settings}
 use Rattle.model.specs.declared.State.{State}
 use Rattle.model.specs.Changes.{applied}
 use Rattle.model.specs.Replies.{reply, callOf}
 use Rattle.model.specs.SoundTest.{sound}
-use Rattle.model.proofs.Classes.{place}
 use Rattle.edits.specs.declared.Edited.{Edited}
 use Rattle.edits.specs.Edits.{changeOf, Fits}
 use Rattle.views.specs.declared.View.{View}
@@ -39,12 +39,12 @@ pub record WithClosing (v : View) (o : Operation) (m b : List ℕ) (slot : ℕ) 
   pub low : slot < 32
   pub carried : CarriedOut v o m b (Done 0) (IsolateSpace slot) m' b'
 
--- the calls that ask for whole tables: ENROL, CREATE, DESTROY and RESET, by their places in the enum
-abbrev pub whole : List ℕ
-whole = 0 ∷ 1 ∷ 2 ∷ 12 ∷ []
-
-abbrev pub AsksWhole : Operation → Type 0
-AsksWhole o = OneOf whole (place o)
+-- the calls that ask for whole tables
+pub data AsksWhole : Operation → Type 0 where
+  enrols : (settings : Settings) → AsksWhole (Enrol settings)
+  creates : (name pages : ℕ) → AsksWhole (Create name pages)
+  destroys : (id : ℕ) → AsksWhole (Destroy id)
+  resets : AsksWhole Reset
 
 -- or nothing has been done yet, for one of these
 pub record NotYet (o : Operation) (m b m' b' : List ℕ) : Type 0 where
