@@ -1,5 +1,7 @@
 // FETCH and STORE: from a register, through its token, to the bytes of a space. Each is decided and carried out on what it has
 // seen of the tables, of any state that it was seen in; and of a sound state that is handed over.
+#![tactic(auto)]
+
 ghost use Rattle.std.specs.Prelude.{◌*◌, true, ◌≡◌, length};
 ghost use Rattle.model.specs.Calls.{judge};
 ghost use Rattle.model.specs.Leaves.{scratch_judged, buffer_judged};

@@ -1,4 +1,6 @@
 // The papers' number and value of an answer.
+#![tactic(auto)]
+
 ghost use Rattle.std.specs.Prelude.{◌≡◌};
 ghost use Rattle.model.specs.Answers.{limit_number, names_argument, number as number_of, value as value_of};
 

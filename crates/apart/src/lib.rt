@@ -1,4 +1,6 @@
 // Whether live spaces stand apart: no frame of two, no identification of two, no name of two spaces of one owner.
+#![tactic(auto)]
+
 ghost use Rattle.std.specs.Prelude.{◌≡◌};
 ghost use Rattle.model.specs.SoundTest.{apart_test};
 

@@ -1,4 +1,5 @@
 // A program's arguments: it takes none but `--help`.
+#![tactic(auto)]
 
 // Whether there are none, so that the program does its work.
 pub fn are_none() -> bool {

@@ -1,5 +1,7 @@
 // What a call asks to see of the tables, so that whoever owns them can read it out. Which elements it then sees is `view_of` of the
 // crate views.
+#![tactic(auto)]
+
 ghost use Rattle.std.specs.Prelude.{true, false, ◌≡◌};
 ghost use Rattle.asks.specs.declared.Sought.TheVariants.{Nothing, Id};
 ghost use Rattle.asks.specs.declared.Uses.TheVariants.{Token, Register};
@@ -8,14 +10,14 @@ ghost use Rattle.asks.specs.Asks.{asks_by, asks_for, plainly};
 use model::{Call, Operation, Request};
 
 // The token that a call uses: an argument of its own, or what a register of the caller's holds.
-#[derive(Drop)]
+#[derive(Clone, Copy)]
 pub enum Uses {
     Token { token: u32 },
     Register { register: u32 },
 }
 
 // The space that a call names.
-#[derive(Drop)]
+#[derive(Clone, Copy)]
 pub enum Sought {
     Nothing,
     Id { id: u32 },
@@ -24,7 +26,7 @@ pub enum Sought {
 
 // What a call asks to see. `other` is the guest whose permit it looks at; `takes` tells whether it takes an entry of its list;
 // from `address` on it moves bytes of the space.
-#[derive(Drop)]
+#[derive(Clone, Copy)]
 pub struct Asks {
     pub caller: u32,
     pub other: u32,

@@ -1,5 +1,7 @@
 // BLOCK: the key and the mark of one block of a space that the caller owns. It is decided on what it has seen of the tables, of any
 // state that it was seen in; and of a sound state that is handed over.
+#![tactic(auto)]
+
 ghost use Rattle.std.specs.Prelude.{◌*◌, true, ◌≡◌, ltb};
 ghost use Rattle.model.specs.Calls.{judge};
 ghost use Rattle.model.specs.Replies.{replied, call_of};

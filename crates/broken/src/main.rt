@@ -1,6 +1,8 @@
 // Every call on states that are not sound, each with one clause of soundness broken alone, and on scratch of another length than
 // the state's. A line says what is broken, or what is sound beside it, and then has the fifteen answers' numbers in the order of
 // the papers. A number has a + behind it where the call changed the tables, and a * where it changed bytes of scratch or buffer.
+#![tactic(auto)]
+
 mod altered;
 mod calls;
 mod sums;

@@ -1,5 +1,7 @@
 // Any of the fifteen calls as a value. Nothing is asked of the caller: check 1 comes first. A call is decided on what it sees
 // of the tables, or carried out on whole tables. Past check 1 each way out hands the state to one function, which makes the reply of it.
+#![tactic(auto)]
+
 ghost use Rattle.model.specs.Promise.{Promise, step_of};
 
 use deciding::Decision;

@@ -1,5 +1,7 @@
 // Check 1: the cells. Every key has 4 bits, and a frame that no live space has is blank: key 0, mark off. Each cell becomes one
 // plain number, so that one pass without a way out tells of all of them, many at a time.
+#![tactic(auto)]
+
 ghost use Rattle.std.specs.Prelude.{◌≤◌, ◌≡◌, length, get_or};
 ghost use Rattle.lists.specs.Places.{one_if};
 ghost use Rattle.model.specs.SoundTest.{cells_test};

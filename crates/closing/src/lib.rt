@@ -1,5 +1,7 @@
 // One space withdrawn: what becomes of the table of permits, of the table of entries and of the table of cells. The loops go over
 // places that are known before they start, so that they are vectorised.
+#![tactic(auto)]
+
 ghost use Rattle.std.specs.Prelude.{◌+◌, ◌≤◌, ◌<◌, ◌≡◌, eqb};
 ghost use Rattle.model.specs.Changes.{unpermitted, revoked_all, blanked};
 ghost use Rattle.model.specs.Leaves.{in_run};

@@ -1,5 +1,7 @@
 // LOAD, MODE and KEY: the registers, the mode and the access key of the caller's CPU. Each is decided on what it has seen of the tables, of any
 // state that it was seen in; and of a sound state that is handed over.
+#![tactic(auto)]
+
 ghost use Rattle.std.specs.Prelude.{true, ◌≡◌, eqb};
 ghost use Rattle.lists.specs.Choice.{implies};
 ghost use Rattle.model.specs.Calls.{judge};

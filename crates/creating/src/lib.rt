@@ -1,4 +1,6 @@
 // CREATE, for callers that hold a sound state and its scratch.
+#![tactic(auto)]
+
 ghost use Rattle.std.specs.Prelude.{◌*◌, ◌≤◌, true, ◌≡◌, length};
 ghost use Rattle.model.specs.Calls.{judge, creating as creating_in};
 ghost use Rattle.model.specs.Replies.{call_of, Carried};

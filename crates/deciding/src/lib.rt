@@ -1,5 +1,7 @@
 // Any call on what it sees of the tables: decided, and its bytes moved. What it changes in the tables is left to whoever owns
 // them, and so is a call that asks for whole tables.
+#![tactic(auto)]
+
 ghost use Rattle.std.specs.Prelude.{◌≡◌};
 ghost use Rattle.transfer.specs.Transferred.{RunIn};
 ghost use Rattle.edits.specs.declared.Edit.TheVariants.{Nothing};
@@ -12,7 +14,7 @@ use model::{Answer, Operation};
 use views::View;
 
 // Decided, with an edit to be stored; done, where a space is to be closed; or left.
-#[derive(Drop)]
+#[derive(Clone, Copy)]
 pub enum Decision {
     Made { edited: Edited },
     Closes { slot: u8 },

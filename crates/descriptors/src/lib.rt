@@ -1,11 +1,13 @@
 // Reads and writes of a descriptor, and what each came to. All that is decided between two calls of the system is decided by a
 // function whose promise is exact; what a call reads or writes no promise can say.
+#![tactic(auto)]
+
 ghost use Rattle.std.specs.Prelude.{◌≤◌, ◌≡◌, eqb, length};
 ghost use Rattle.lists.specs.Places.{one_if};
 ghost use Rattle.descriptors.specs.Came.{below_zero, error_of, got_of, moved_of, interrupted, bytes_got, place_of, failure_of, newlines};
 
 // What a read came to.
-#[derive(Drop)]
+#[derive(Clone, Copy)]
 pub enum Got {
     Bytes { count: usize },
     End,
@@ -14,14 +16,14 @@ pub enum Got {
 }
 
 // What a write came to: the place from which the writing goes on, or a failure. One that was interrupted goes on where it began.
-#[derive(Drop)]
+#[derive(Clone, Copy)]
 pub enum Moved {
     To { place: usize },
     Failed { error: u32 },
 }
 
 // How many bytes were written, and where these are not all, the number of the error.
-#[derive(Drop)]
+#[derive(Clone, Copy)]
 pub struct Sent {
     pub count: usize,
     pub error: u32,

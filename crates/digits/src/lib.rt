@@ -1,4 +1,6 @@
 // Numbers in decimal and bytes in hex. Each function writes into out from place at on, and returns the place after what it wrote.
+#![tactic(auto)]
+
 ghost use Rattle.std.specs.Prelude.{◌+◌, ◌*◌, ◌≤◌, ◌<◌, [], ◌∷◌, ◌≡◌, length};
 ghost use Rattle.digits.specs.Wrote.{Wrote};
 ghost use Rattle.model.specs.Session.{decimal, hex_letter, hex_text};

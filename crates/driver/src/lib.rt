@@ -1,5 +1,7 @@
 // A session over input that comes in pieces. No public function asks anything of its caller: soundness is tested once for a piece,
 // and then the inner calls are used for every line of it.
+#![tactic(auto)]
+
 ghost use Rattle.std.specs.Prelude.{◌≡◌, ◌+◌, ◌≤◌, length};
 ghost use Rattle.digits.specs.Wrote.{Wrote};
 ghost use Rattle.feeds.specs.Feed.{ended, reply_to};
@@ -14,7 +16,7 @@ use views::View;
 
 // What stands between two pieces of input: whether a FRAMES has been done, the number of the next line, how many bytes of it
 // are held, and the tables.
-#[derive(Drop)]
+#[derive(Clone, Copy)]
 pub struct Session {
     pub begun: bool,
     pub line: u64,
@@ -23,14 +25,14 @@ pub struct Session {
 }
 
 // What became of a piece: the session after it, how many of its bytes were taken, and how many bytes were written.
-#[derive(Drop)]
+#[derive(Clone, Copy)]
 pub struct Fed {
     pub session: Session,
     pub used: usize,
     pub written: usize,
 }
 
-#[derive(Drop)]
+#[derive(Clone, Copy)]
 pub struct Finished {
     pub done: bool,
     pub written: usize,

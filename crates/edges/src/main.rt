@@ -5,6 +5,8 @@
 // byte of the buffer, if it has one, which a fetch finds filled with 170; after a bar each, frame, key and mark of every frame
 // that has a key or a mark; and, after a tilde each, the frame from which on the bytes were made zeros, made others or kept: those
 // of the frames before the first tilde were kept. Scratch first holds 165 in every byte. A line that is no request is a heading.
+#![tactic(auto)]
+
 use model::{Answer, Call, Cell, Operation, Reply, Request, State};
 
 fn print(n: u32) {

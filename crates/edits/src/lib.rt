@@ -1,5 +1,7 @@
 // What a call decides that changes one element of the tables at most: its answer, and the element. Whoever owns the tables
 // stores it.
+#![tactic(auto)]
+
 ghost use Rattle.std.specs.Prelude.{◌≡◌};
 ghost use Rattle.model.specs.declared.Answer.TheVariants.{Done};
 ghost use Rattle.model.specs.Changes.{applied};
@@ -9,7 +11,7 @@ ghost use Rattle.edits.specs.Edits.{Fits, change_of};
 
 use model::{Answer, Cell, Entry, Permit, Reply, State};
 
-#[derive(Drop)]
+#[derive(Clone, Copy)]
 pub enum Edit {
     Nothing,
     Permit { place: u8, permit: Permit },
@@ -20,7 +22,7 @@ pub enum Edit {
     Cell { place: u16, cell: Cell },
 }
 
-#[derive(Drop)]
+#[derive(Clone, Copy)]
 pub struct Edited {
     pub answer: Answer,
     pub edit: Edit,

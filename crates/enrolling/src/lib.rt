@@ -1,4 +1,6 @@
 // ENROL, for callers that hold a sound state and its scratch.
+#![tactic(auto)]
+
 ghost use Rattle.std.specs.Prelude.{◌*◌, ◌≤◌, ◌<◌, true, ◌≡◌, length};
 ghost use Rattle.enrolling.specs.Enrolling.{wrong_of, kind_at, EnrolsTo};
 ghost use Rattle.model.specs.Calls.{judge, may_enrol, new_guest};

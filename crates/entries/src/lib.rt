@@ -1,4 +1,6 @@
 // One entry of a list and its token: whether it is in use, and how it becomes unused.
+#![tactic(auto)]
+
 ghost use Rattle.std.specs.Prelude.{◌≡◌};
 ghost use Rattle.model.specs.Changes.{released};
 ghost use Rattle.model.specs.Searches.{is_unused, may_take};

@@ -1,5 +1,7 @@
 // What a program says on standard error of a read or a write that failed. `name` is the program's, `first` what it calls the first
 // line that it writes, and `last` what it calls any other, its number left out.
+#![tactic(auto)]
+
 ghost use Rattle.std.specs.Prelude.{◌+◌, ◌≤◌, length};
 ghost use Rattle.digits.specs.Wrote.{Wrote};
 ghost use Rattle.failures.specs.Message.{kind_text, failure_text, place_text, message_text};

@@ -1,5 +1,7 @@
 // Lines out of input that comes in pieces, for any work that is done line by line: where a line ends, and the request of one
 // whose first bytes came earlier.
+#![tactic(auto)]
+
 ghost use Rattle.std.specs.Prelude.{◌≤◌, ◌≡◌, length};
 ghost use Rattle.lists.specs.Bytes.{over};
 ghost use Rattle.model.specs.Lines.{read_line, data_of};

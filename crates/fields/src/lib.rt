@@ -1,4 +1,6 @@
 // One field of a line, read where it stands, in one pass: what it spells is `field_of` of the model.
+#![tactic(auto)]
+
 ghost use Rattle.std.specs.Prelude.{◌≡◌, ◌+◌, ◌-◌, ◌^◌, ◌<◌, ◌≤◌, not, length, drop, replicate, ◌==◌, nat_le, slice_index};
 ghost use Rattle.lists.specs.Places.{one_if};
 ghost use Rattle.model.specs.Lines.{spelt, number_field, packed, name_field, right_field, hex_digit, hex_digits, hex_field, field_of};
@@ -8,7 +10,7 @@ pub mod hexes;
 
 // What a field spells, and where it ends. It spells a number, a name as one number, a right as 0 or 1, or how many bytes of
 // data.
-#[derive(Drop)]
+#[derive(Clone, Copy)]
 pub enum Field {
     Is { value: u64, end: usize },
     Bad,

@@ -1,5 +1,7 @@
 // The forms of lines, one table for the reader and the writer: the calls' names, and the kinds of their fields. The number of a
 // form is its place in the model's `forms`.
+#![tactic(auto)]
+
 ghost use Rattle.std.specs.Prelude.{◌≡◌};
 ghost use Rattle.model.specs.Lines.{form_at};
 ghost use Rattle.forms.specs.Tables.{shape_of, call_names};

@@ -1,4 +1,6 @@
 // The frames of spaces: filled with zeros where a space is made and where spaces go.
+#![tactic(auto)]
+
 ghost use Rattle.std.specs.Prelude.{◌+◌, ◌*◌, ◌/◌, ◌≤◌, ◌≡◌, length};
 ghost use Rattle.lists.specs.Choice.{choose};
 ghost use Rattle.model.specs.Changes.{freed};

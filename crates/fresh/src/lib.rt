@@ -1,4 +1,6 @@
 // The fresh state: nobody enrolled, no space live, every entry unused, every cell with key 0 and no mark.
+#![tactic(auto)]
+
 ghost use Rattle.std.specs.Prelude.{◌≡◌};
 ghost use Rattle.model.specs.Fresh.{empty_tables, frames_in_range, fresh};
 

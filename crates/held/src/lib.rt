@@ -1,4 +1,6 @@
 // The bytes held of a line that its end has not reached yet: 601 at most, which tell that a line is longer than 600 bytes.
+#![tactic(auto)]
+
 ghost use Rattle.std.specs.Prelude.{min, ◌≤◌, ◌++◌, ◌≡◌, length, take};
 
 fn least(a: usize, b: usize) -> usize

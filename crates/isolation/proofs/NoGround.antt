@@ -67,7 +67,7 @@ module _ (h : List Event) (i : Issue) (x r : ℕ) (goes : Through i.call.operati
       given_up : GivesUp g t (deed e) → ((q : Right) → deed e ≡ added g x q t → ⊥) → ((q : Right) → Undone (added g x q t) l) → Ground h i x → ⊥
       given_up gives nor never w =
           let p = by w in
-          undone (added g x p.right t) (l ++ (e ∷ [])) (never_join _ l e [] (nor p.right) (never p.right) tt)
+          undone (added g x p.right t) (l ++ (e ∷ [])) (never_join (λ a. a ≡ added g x p.right t) l e [] (nor p.right) (never p.right) tt)
           (since_last h l e b split (added g x p.right t) (GivesUp g t) gives (p.did, p.last))
 
       -- its REMOVE of the token since the ADD
@@ -118,7 +118,7 @@ module _ (h : List Event) (i : Issue) (x r : ℕ) (goes : Through i.call.operati
         -- the space withdrawn by e, and no PERMIT since
         withdrawn : Withdraws o x (deed e) → ((q : Right) → deed e ≡ permitted o x g q → ⊥) → ((q : Right) → Undone (permitted o x g q) l) → Ground h i x → ⊥
         withdrawn takes nor never w =
-            undone _ (l ++ (e ∷ [])) (never_join _ l e [] (nor (permit w).right) (never (permit w).right) tt)
+            undone _ (l ++ (e ∷ [])) (never_join (λ a. a ≡ permitted o x g (permit w).right) l e [] (nor (permit w).right) (never (permit w).right) tt)
             (since_last h l e b split _ (Withdraws o x) takes (permit_since w))
 
         -- an ISOLATE of it since the PERMIT

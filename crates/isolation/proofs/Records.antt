@@ -123,7 +123,7 @@ by_write = record {
 
 -- With none: the laws of NoGround on such records. Guest 2 goes for space 3, which is guest 1's, through token 2 in register 5.
 coded : (d : Deed) (h : List Event) → Never (λ x. code x ≡ code d) h → Undone d h
-coded d h n = never_map _ _ (λ x q. ap code q) h n
+coded d h n = never_map (λ x. x ≡ d) (λ x. code x ≡ code d) (λ x q. ap code q) h n
 
 -- a record in which space 3 is nobody's but guest 1's
 abbrev Sole : List Event → Type 0

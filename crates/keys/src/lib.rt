@@ -1,4 +1,6 @@
 // Key-controlled protection: whether the blocks in which a fetch or store lies allow it.
+#![tactic(auto)]
+
 ghost use Rattle.std.specs.Prelude.{◌≤◌, ◌≡◌};
 ghost use Rattle.model.specs.Keys.{allows_key};
 ghost use Rattle.keys.specs.Guards.{guard_allows};
@@ -7,7 +9,7 @@ use model::Cell;
 
 // What an access is held against: the access key, what protects the block in which it starts, and what protects the block after
 // it, into which it may reach.
-#[derive(Drop)]
+#[derive(Clone, Copy)]
 pub struct Guard {
     pub key: u8,
     pub block: Cell,

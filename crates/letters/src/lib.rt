@@ -1,5 +1,7 @@
 // Names as text. A space's name is eight bytes in one number, blanks on the right; a call's name, in the table of forms, is a 1 and
 // then its letters.
+#![tactic(auto)]
+
 ghost use Rattle.std.specs.Prelude.{◌+◌, ◌≤◌, ◌≡◌, eqb, leb, length, take, drop};
 ghost use Rattle.lists.specs.Choice.{both, either};
 ghost use Rattle.model.specs.Lines.{no_blank};

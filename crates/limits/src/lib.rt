@@ -1,4 +1,6 @@
 // The limits of lengths, and of a session's frames.
+#![tactic(auto)]
+
 ghost use Rattle.std.specs.Prelude.{min, ◌≡◌, leb};
 ghost use Rattle.lists.specs.Choice.{both};
 ghost use Rattle.model.specs.Arguments.{good_length};

@@ -1,5 +1,7 @@
 // One line of a session, read in place: the request that it spells, and the data of a store. What a line spells is `read_line`
 // of the model, and its data `data_of`.
+#![tactic(auto)]
+
 ghost use Rattle.std.specs.Prelude.{◌≤◌, ◌<◌, ◌≡◌, length, drop};
 ghost use Rattle.lists.specs.Bytes.{over};
 ghost use Rattle.model.specs.declared.Request.{Request};
@@ -155,7 +157,7 @@ fn make(place: usize, v: [u64; forms::MOST_FIELDS]) -> Request
 }
 
 // A request, and where the data of a store start: 0 where it has none.
-#[derive(Drop)]
+#[derive(Clone, Copy)]
 struct Outcome {
     request: Request,
     data_at: usize,

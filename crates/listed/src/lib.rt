@@ -1,4 +1,6 @@
 // The entries of access lists: whether each names a space that its guest may use so, and whether those above a list are untouched.
+#![tactic(auto)]
+
 ghost use Rattle.std.specs.Prelude.{◌<◌, ◌≡◌};
 ghost use Rattle.lists.specs.Choice.{both};
 ghost use Rattle.model.specs.SoundTest.{untouched_test};

@@ -1,4 +1,6 @@
 // Looking things up in the tables. A search that finds nothing gives the number of places.
+#![tactic(auto)]
+
 ghost use Rattle.std.specs.Prelude.{◌+◌, ◌<◌, ◌≡◌};
 ghost use Rattle.lists.specs.Choice.{choose};
 ghost use Rattle.model.specs.Leaves.{caller_place};
@@ -61,7 +63,7 @@ pub fn find_space(spaces: [Space; 32], id: u32) -> usize
 }
 
 // A space that a guest names by its identification, as its owner alone may.
-#[derive(Drop)]
+#[derive(Clone, Copy)]
 pub enum Owned {
     At { slot: u8 },
     Refused(Answer),

@@ -1,4 +1,6 @@
 // Withdrawing, element by element: what becomes of one slot, one permit, one entry and one cell.
+#![tactic(auto)]
+
 ghost use Rattle.std.specs.Prelude.{◌≤◌, ◌<◌, ◌≡◌, eqb};
 ghost use Rattle.lists.specs.Choice.{choose};
 ghost use Rattle.model.specs.Changes.{released, revoked};

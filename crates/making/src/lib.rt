@@ -1,12 +1,14 @@
 // What ENROL and CREATE have in common: where a new space goes. It is decided on the tables that it takes, the spaces, F and the
 // next identification; whoever owns the state stores it, so that no state is handed down for it.
+#![tactic(auto)]
+
 ghost use Rattle.std.specs.Prelude.{◌≤◌};
 ghost use Rattle.making.specs.Placing.{PlacedTo};
 
 use model::{Answer, Space};
 
 // Refused; or the space, and the slot in which it is to stand.
-#[derive(Drop)]
+#[derive(Clone, Copy)]
 pub enum Placed {
     Refused(Answer),
     At { slot: u8, space: Space },

@@ -61,6 +61,7 @@ leftmost_refuses d (more {a} {args} n p f rest) (here out) =
     rw (check_no (OutsideLimit a.kind a.place) (check_all args d) (not_so a.fits (λ e. out (f.to e)))) (record { number = n; value = p; refused = refl })
 leftmost_refuses d (more {a} {args} n p f rest) (further met left) =
     rw (check_yes (OutsideLimit a.kind a.place) (check_all args d) (f.of met)) (leftmost_refuses d rest left)
+leftmost_refuses {l = l} d none x4 = elim x4 [ ]
 
 all_met_goes : {args : List Argument} {ls : List Limit} (d : Decision) → Have args ls → AllMet ls → check_all args d ≡ d
 unfolding check_all

@@ -2,7 +2,7 @@
 use Prim.Native.Nat.{ℕ}
 use mathlib.Core.Bool.{true, false}
 use mathlib.Core.Logic.{◌≢◌}
-use mathlib.Core.Path.{◌≡◌, refl, sym, ap, ◌∙◌}
+use mathlib.Core.Path.{◌≡◌, refl, sym, ap, subst, ◌∙◌}
 use lib.ListN.{length}
 use borrow.Author.Tests.{eq-eqb}
 use Rattle.lists.specs.Choice.{either}
@@ -49,7 +49,7 @@ module _ (s : State) (m : ℕ) (k : Call) (n : ℕ) where
   answer_listed = go (verdict s m k n)
     where
       go : Verdict (row k.operation) (Granted s m k n) (decide s m k n) → listed (number (decide s m k n).answer) (row k.operation) ≡ true
-      go (refused r) = rw r.is r.listed
+      go (refused r) = subst (λ (d : Decision). listed (number d.answer) (row k.operation) ≡ true) (sym r.is) r.listed
       go (granted g) = rw (performed_number s k.caller k.operation n (decide s m k n) g.performed) refl
 
   -- answer 0 comes with all that it implies, any other is a refusal

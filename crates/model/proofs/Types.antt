@@ -2,7 +2,8 @@
 use Prim.Native.Nat.{◌*◌}
 use mathlib.Core.List.{[], ◌∷◌}
 use mathlib.Core.Path.{◌≡◌, refl}
-use denote.Struct.Field.{u8-field, u16-field, u32-field, u64-field, bool-field, array_field}
+use denote.Builtin.{u32, Array}
+use denote.Struct.Field.{row_field, u8-field, u16-field, u32-field, u64-field, bool-field}
 use Rattle.model.specs.Sizes.{guest_count, slot_count, register_count, max_frames, max_list}
 use Rattle.model.specs.contracts.Cell as cell
 use Rattle.model.specs.contracts.Cpu as cpu
@@ -20,17 +21,17 @@ use Rattle.model.specs.contracts.State as state
 pub state_fields : (state.struct).parts ≡
     u32-field
     ∷ u32-field
-    ∷ array_field space.the_field slot_count
-    ∷ array_field guest.the_field guest_count
-    ∷ array_field cpu.the_field guest_count
-    ∷ array_field permit.the_field (slot_count * guest_count)
-    ∷ array_field entry.the_field (guest_count * max_list)
-    ∷ array_field cell.the_field max_frames
+    ∷ row_field (Array space.the_row tt slot_count)
+    ∷ row_field (Array guest.the_row tt guest_count)
+    ∷ row_field (Array cpu.the_row tt guest_count)
+    ∷ row_field (Array permit.the_row tt (slot_count * guest_count))
+    ∷ row_field (Array entry.the_row tt (guest_count * max_list))
+    ∷ row_field (Array cell.the_row tt max_frames)
     ∷ []
 state_fields = refl
 
 -- "Sixteen access registers per guest, each 32 bits"; paper 02, M-100: an access key
-pub cpu_fields : (cpu.struct).parts ≡ array_field u32-field register_count ∷ bool-field ∷ u8-field ∷ []
+pub cpu_fields : (cpu.struct).parts ≡ row_field (Array u32 tt register_count) ∷ bool-field ∷ u8-field ∷ []
 cpu_fields = refl
 
 -- paper 02, M-100: "Each frame of a space gets a 4-bit key and a fetch-protect mark"

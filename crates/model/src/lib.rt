@@ -1,17 +1,18 @@
 // The types of the space manager. What they mean is defined in specs/, under the headings of paper 01.
 // Numbers of guests are 1 to 8, of slots 0 to 31, of entries 2 to 31.
+#![tactic(auto)]
 
 // The name of a primary space: BASE and four blanks.
 pub const BASE: u64 = 0x4241534520202020;
 
-#[derive(Drop)]
+#[derive(Clone, Copy)]
 pub enum Right {
     Read,
     Write,
 }
 
 // "unused; valid with a space and a right; or revoked". The space is named by its slot.
-#[derive(Drop)]
+#[derive(Clone, Copy)]
 pub enum Standing {
     Unused,
     Valid { slot: u8, right: Right },
@@ -19,27 +20,27 @@ pub enum Standing {
 }
 
 // "An entry is a sequence number and a standing". The standing stands first: its tag is then the lowest byte of the entry.
-#[derive(Drop)]
+#[derive(Clone, Copy)]
 pub struct Entry {
     pub standing: Standing,
     pub sequence: u8,
 }
 
 // What a guest is permitted of a space.
-#[derive(Drop)]
+#[derive(Clone, Copy)]
 pub enum Grant {
     Nothing,
     Reading,
     Writing,
 }
 
-#[derive(Drop)]
+#[derive(Clone, Copy)]
 pub struct Permit {
     pub grant: Grant,
 }
 
 // A space is live where its identification is not 0. A name is eight bytes in one number, the first byte highest.
-#[derive(Drop)]
+#[derive(Clone, Copy)]
 pub struct Space {
     pub id: u32,
     pub owner: u8,
@@ -48,7 +49,7 @@ pub struct Space {
     pub pages: u16,
 }
 
-#[derive(Drop)]
+#[derive(Clone, Copy)]
 pub struct Guest {
     pub enrolled: bool,
     pub allowance: u8,
@@ -58,7 +59,7 @@ pub struct Guest {
 }
 
 // The access registers of a CPU, its mode, true for access-register mode and false for primary mode, and its access key.
-#[derive(Drop)]
+#[derive(Clone, Copy)]
 pub struct Cpu {
     pub registers: [u32; 16],
     pub mode: bool,
@@ -66,7 +67,7 @@ pub struct Cpu {
 }
 
 // What protects one frame: its 4-bit key, and its fetch-protect mark.
-#[derive(Drop)]
+#[derive(Clone, Copy)]
 pub struct Cell {
     pub key: u8,
     pub mark: bool,
@@ -74,7 +75,7 @@ pub struct Cell {
 
 // Guest g stands at place g - 1 of guests and cpus; its permit for the space in slot u at place u * 8 + (g - 1);
 // entry n of its list at place (g - 1) * 30 + (n - 2); the cell of frame f at place f.
-#[derive(Drop)]
+#[derive(Clone, Copy)]
 pub struct State {
     pub frames: u32,
     pub next: u32,
@@ -87,7 +88,7 @@ pub struct State {
 }
 
 // The kinds of arguments that have limits.
-#[derive(Drop)]
+#[derive(Clone, Copy)]
 pub enum Kind {
     Pages,
     Allowance,
@@ -102,7 +103,7 @@ pub enum Kind {
 }
 
 // One case for each reason. specs/Answers.antt gives each the paper's number and value.
-#[derive(Drop)]
+#[derive(Clone, Copy)]
 pub enum Answer {
     Done { value: u32 },
     Unsound,
@@ -132,14 +133,14 @@ pub enum Answer {
 }
 
 // Who calls.
-#[derive(Drop)]
+#[derive(Clone, Copy)]
 pub struct Caller {
     pub guest: u32,
 }
 
 // What ENROL sets, as it is asked for: the pages of the primary space, the allowance of data spaces, whether the guest may share,
 // L, and whether it has the ASF control.
-#[derive(Drop)]
+#[derive(Clone, Copy)]
 pub struct Settings {
     pub pages: u32,
     pub allowance: u32,
@@ -150,7 +151,7 @@ pub struct Settings {
 
 // The fifteen calls with their arguments, the caller left out. ENROL's guest is its caller. The length of a fetch or
 // store is that of the lent buffer.
-#[derive(Drop)]
+#[derive(Clone, Copy)]
 pub enum Operation {
     Enrol {
         settings: Settings,
@@ -208,7 +209,7 @@ pub enum Operation {
     },
 }
 
-#[derive(Drop)]
+#[derive(Clone, Copy)]
 pub struct Call {
     pub caller: Caller,
     pub operation: Operation,
@@ -217,7 +218,7 @@ pub struct Call {
 // What a call changes in the tables, as the statements name it: nothing, one element, a new space with or without its guest, or
 // all that belongs to spaces that are withdrawn. specs/Changes.antt gives the tables after each. A place, or the number of a
 // CPU, is that of an element in its table.
-#[derive(Drop)]
+#[derive(Clone, Copy)]
 pub enum Change {
     Keep,
     SetPermit {
@@ -267,14 +268,14 @@ pub enum Change {
 }
 
 // What a call returns: the answer and the tables after it.
-#[derive(Drop)]
+#[derive(Clone, Copy)]
 pub struct Reply {
     pub answer: Answer,
     pub state: State,
 }
 
 // What host access-register translation gives: the space's slot and the right, or the refusal.
-#[derive(Drop)]
+#[derive(Clone, Copy)]
 pub enum Translation {
     Reached { slot: u8, right: Right },
     Refused(Answer),
@@ -282,7 +283,7 @@ pub enum Translation {
 
 // What a line of a session asks for: FRAMES, a call, or nothing that can be read. The length is FETCH's as written, or the
 // number of STORE's data bytes, which stand beside; for every other call it is 0.
-#[derive(Drop)]
+#[derive(Clone, Copy)]
 pub enum Request {
     Frames { frames: u32 },
     Call { call: Call, length: u32 },

@@ -1,4 +1,6 @@
 // Bytes found in a slice and moved between slices.
+#![tactic(auto)]
+
 ghost use Rattle.std.specs.Prelude.{◌+◌, ◌≤◌, ◌≡◌, eqb, length, replicate};
 ghost use Rattle.lists.specs.Bytes.{over, part};
 ghost use Rattle.lists.specs.Places.{one_if};

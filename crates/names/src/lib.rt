@@ -1,4 +1,6 @@
 // The form of a name, tested quickly.
+#![tactic(auto)]
+
 ghost use Rattle.std.specs.Prelude.{◌≡◌, ◌<◌};
 ghost use Rattle.model.specs.Names.{name_rest, good_name};
 ghost use Rattle.names.specs.Later.{LaterTable, later_byte, last_four};

@@ -1,4 +1,6 @@
 // The exact test that live spaces stand apart: each slot against each other one.
+#![tactic(auto)]
+
 ghost use Rattle.std.specs.Prelude.{◌≡◌, eqb};
 ghost use Rattle.lists.specs.Choice.{either};
 ghost use Rattle.model.specs.SoundTest.{frames_apart, same_name, pair_test, apart_test};

@@ -1,4 +1,6 @@
 // A request taken apart: what `lines` makes of the values of a line's fields, the other way round.
+#![tactic(auto)]
+
 ghost use Rattle.std.specs.Prelude.{◌≡◌};
 ghost use Rattle.model.specs.Parts.{right_number, call_parts, parts_of};
 ghost use Rattle.parting.specs.Apart.{Apart};
@@ -6,7 +8,7 @@ ghost use Rattle.parting.specs.Apart.{Apart};
 use model::{Operation, Request, Right};
 
 // The number of a request's form, and the values of its fields; what stands behind them counts for nothing.
-#[derive(Drop)]
+#[derive(Clone, Copy)]
 pub struct Parts {
     pub form: usize,
     pub values: [u64; forms::MOST_FIELDS],

@@ -1,4 +1,6 @@
 // One permit: what it allows, and how it is raised.
+#![tactic(auto)]
+
 ghost use Rattle.std.specs.Prelude.{◌≡◌, eqb};
 ghost use Rattle.lists.specs.Choice.{either};
 ghost use Rattle.model.specs.Changes.{allows as allowed, raised};

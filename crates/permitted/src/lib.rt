@@ -1,5 +1,7 @@
 // The permits of a state: whether each may stand, and what each guest may do with each slot. Owners come in tags: the owner of a
 // slot is its tag's remainder by 16, and 0 for nobody.
+#![tactic(auto)]
+
 ghost use Rattle.std.specs.Prelude.{◌≤◌, ◌<◌, ◌≡◌, length};
 ghost use Rattle.permitted.specs.Elements.{place_of, grant_number, may_be, over_of, power_with};
 ghost use Rattle.permitted.specs.Columns.{Filled, Owners, number_at, may_at, limit_at, Excess, Powers, Permits};

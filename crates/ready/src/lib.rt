@@ -1,4 +1,6 @@
 // Check 1: a sound state with its scratch.
+#![tactic(auto)]
+
 ghost use Rattle.std.specs.Prelude.{◌≡◌};
 ghost use Rattle.model.specs.Calls.{ready};
 ghost use Rattle.ready.specs.Usable.{usable};

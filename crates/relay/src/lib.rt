@@ -1,6 +1,8 @@
 // Work on lines from one descriptor to another: a session, or lines written again. What is decided between two calls of the system
 // has a promise, and so has the whole: which bytes were read and written no promise can say, but how many, and that the work went
 // over all of them.
+#![tactic(auto)]
+
 ghost use Rattle.std.specs.Prelude.{◌≡◌, ◌≤◌, [], length};
 ghost use Rattle.feeds.specs.Feed.{new_feed};
 ghost use Rattle.works.specs.Fed.{feed_by};
@@ -11,7 +13,7 @@ use descriptors::Got;
 use works::Work;
 
 // How the work ended: it was done to the end of the input, or a read or a write failed with the error of that number.
-#[derive(Drop)]
+#[derive(Clone, Copy)]
 pub enum How {
     Answered,
     ReadingFailed { error: u32 },
@@ -20,7 +22,7 @@ pub enum How {
 
 // `line` is the last line whose reply was written whole; where lines are written again they are counted as they are written. `taken`
 // counts the bytes read, and `written` those written, a session's header left out.
-#[derive(Drop)]
+#[derive(Clone, Copy)]
 pub struct Ending {
     pub how: How,
     pub line: u64,
@@ -30,7 +32,7 @@ pub struct Ending {
 
 // What became of a text that was to be written: where that failed, the error and the last line whose reply is whole; and how many
 // bytes have been written by now.
-#[derive(Drop)]
+#[derive(Clone, Copy)]
 struct Said {
     failed: bool,
     error: u32,
@@ -38,14 +40,14 @@ struct Said {
     written: u64,
 }
 
-#[derive(Drop)]
+#[derive(Clone, Copy)]
 struct Part {
     work: Work,
     used: usize,
     said: Said,
 }
 
-#[derive(Drop)]
+#[derive(Clone, Copy)]
 struct Piece {
     work: Work,
     said: Said,

@@ -1,4 +1,6 @@
 // The text of a line's outcome. Each function writes into out from place at on, and returns the place after what it wrote.
+#![tactic(auto)]
+
 ghost use Rattle.std.specs.Prelude.{◌+◌, ◌≤◌, [], ◌∷◌, ◌++◌, ◌≡◌, length};
 ghost use Rattle.model.specs.Answers.{number as number_of};
 ghost use Rattle.model.specs.Session.{decimal, done_text, value_text, line_text, header};

@@ -1,6 +1,8 @@
 // The writer on requests that no line gives, and in buffers of any length. Each line shows the answer's number and value, and the
 // whole buffer in brackets, which was filled with dots before; then whether the line was read back and written again as the same
 // bytes.
+#![tactic(auto)]
+
 use model::{Answer, Call, Caller, Operation, Request, Right, Settings};
 
 fn asked(guest: u32, operation: Operation, length: u32) -> Request {

@@ -1,6 +1,8 @@
 // The program that writes lines again: lines from standard input; to standard output every one that the reader takes, as the writer
 // writes it, and nothing for the others. Where a read or a write fails it says so on standard error. The memory that it takes is
 // the same however long the input is.
+#![tactic(auto)]
+
 fn serve() {
     let mut room = io::large_buffer();
     let end = relay::rewrite(libc::STDIN_FILENO, libc::STDOUT_FILENO, &mut room);

@@ -1,5 +1,7 @@
 // Lines written again, over input that comes in pieces: every line that the reader takes, as the writer writes it, each with a
 // newline, and nothing for the others. No public function asks anything of its caller.
+#![tactic(auto)]
+
 ghost use Rattle.std.specs.Prelude.{◌≡◌, ◌+◌, ◌≤◌, length, take, ◌==◌};
 ghost use Rattle.lists.specs.Choice.{choose};
 ghost use Rattle.model.specs.Rewritten.{rewritten};
@@ -9,21 +11,21 @@ ghost use Rattle.feeds.specs.Feed.{whole_line};
 ghost use Rattle.rewriting.specs.Fed.{FedBy, FinishedBy};
 
 // What stands between two pieces of input: the number of the next line that is written, and how many bytes of a line are held.
-#[derive(Drop)]
+#[derive(Clone, Copy)]
 pub struct Rewriting {
     pub line: u64,
     pub have: usize,
 }
 
 // What became of a piece: where the rewriting stands after it, how many of its bytes were taken, and how many bytes were written.
-#[derive(Drop)]
+#[derive(Clone, Copy)]
 pub struct Fed {
     pub rewriting: Rewriting,
     pub used: usize,
     pub written: usize,
 }
 
-#[derive(Drop)]
+#[derive(Clone, Copy)]
 pub struct Finished {
     pub done: bool,
     pub written: usize,

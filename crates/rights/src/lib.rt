@@ -1,5 +1,7 @@
 // PERMIT, ISOLATE, QUERY, ADD and REMOVE. Each is decided on what it has seen of the tables, of any state that it was seen in; and of a
 // sound state that is handed over.
+#![tactic(auto)]
+
 ghost use Rattle.std.specs.Prelude.{◌<◌, true, ◌≡◌, leb, ltb};
 ghost use Rattle.lists.specs.Choice.{both};
 ghost use Rattle.model.specs.Calls.{judge};

@@ -8,6 +8,8 @@
 // and CREATE, and of bytes for FETCH and STORE. KEYS is 0, or left out, for tables whose keys are all 0, and 1 for tables with a
 // key and the mark in every block, which is every guest's access key too. It prints CALL, LAYER, KEYS and a checksum of answers,
 // tables and bytes, which both layers share. With no arguments it makes a few rounds of everything.
+#![tactic(auto)]
+
 ghost use Rattle.std.specs.Prelude.{◌≤◌};
 
 mod checked;

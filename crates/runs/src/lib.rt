@@ -1,4 +1,6 @@
 // The lowest run of free frames.
+#![tactic(auto)]
+
 ghost use Rattle.std.specs.Prelude.{◌+◌, ◌≤◌, ◌<◌, ◌≡◌};
 ghost use Rattle.model.specs.Searches.{run_in};
 ghost use Rattle.runs.specs.Meeting.{meets as meets_run};

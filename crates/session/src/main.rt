@@ -1,5 +1,7 @@
 // The session program: requests from standard input, one a line; a header and then one reply a line to standard output. Where a
 // read or a write fails it says so on standard error. The memory that it takes is the same however long the input is.
+#![tactic(auto)]
+
 fn serve() {
     let mut scratch = [0u8; 32768];
     let mut room = io::large_buffer();

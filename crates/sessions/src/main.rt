@@ -1,6 +1,8 @@
 // Runs the session files that its arguments name. Of each it prints the name and the whole output of the session; then it runs
 // the file again in other pieces, with less room for replies, and from the file to another file, and says whether the output was
 // the same. Last it has the file's lines written again, and says whether the good ones came back as they are, and how many.
+#![tactic(auto)]
+
 mod files;
 mod good;
 mod runs;

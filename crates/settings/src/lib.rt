@@ -1,5 +1,7 @@
 // Check 1: one guest with its CPU. An enrolled one has one primary space, no more data spaces than its allowance, its settings
 // in range and an access key of 4 bits; of another one all is zero.
+#![tactic(auto)]
+
 ghost use Rattle.std.specs.Prelude.{◌≡◌, eqb, get_or};
 ghost use Rattle.lists.specs.Places.{every};
 ghost use Rattle.model.specs.SoundTest.{enrolled_test, absent_test};

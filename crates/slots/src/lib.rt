@@ -1,4 +1,6 @@
 // One slot of the table of spaces: whether it is live, whose space it holds, and of what name.
+#![tactic(auto)]
+
 ghost use Rattle.std.specs.Prelude.{◌≡◌, eqb};
 ghost use Rattle.model.specs.Names.{base_name};
 ghost use Rattle.model.specs.Searches.{is_space, is_owned, is_named, is_data};

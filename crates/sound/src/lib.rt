@@ -1,4 +1,6 @@
 // Check 1: whether a state is sound, clause by clause of the paper.
+#![tactic(auto)]
+
 ghost use Rattle.std.specs.Prelude.{◌≡◌};
 ghost use Rattle.model.specs.SoundTest.{sound, head_test};
 

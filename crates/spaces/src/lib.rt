@@ -1,5 +1,7 @@
 // The space manager's public face. No function asks anything of its caller: check 1, then a call of the inner layer, which is
 // for callers that hold a sound state. The contract of each is the model's step on the given tables, scratch and buffer.
+#![tactic(auto)]
+
 ghost use Rattle.std.specs.Prelude.{[], ◌≡◌};
 ghost use Rattle.model.specs.Answers.{number as number_of, value as value_of};
 ghost use Rattle.model.specs.Fresh.{fresh as fresh_of};

@@ -1,4 +1,6 @@
 // The text of one field of a line, by its kind: what `fields` reads back. Kinds are as `forms` numbers them.
+#![tactic(auto)]
+
 ghost use Rattle.std.specs.Prelude.{◌+◌, ◌≤◌, true, [], ◌∷◌, ◌≡◌, length};
 ghost use Rattle.model.specs.Written.{right_text, field_text, takes_field};
 ghost use Rattle.digits.specs.Wrote.{Wrote};

@@ -1,4 +1,6 @@
 // What follows translation: the checks 17, 18 and 22, and the bytes moved.
+#![tactic(auto)]
+
 ghost use Rattle.std.specs.Prelude.{◌≤◌, ◌≡◌, length};
 ghost use Rattle.transfer.specs.Transferred.{RunIn, inside, place_in, fetch_answer, fetched, store_answer, stored};
 ghost use Rattle.model.specs.Calls.{writes as writes_by};

@@ -1,4 +1,6 @@
 // From a register to a space and a right: the token used, and host access-register translation.
+#![tactic(auto)]
+
 ghost use Rattle.std.specs.Prelude.{◌≤◌, ◌<◌, ◌≡◌};
 ghost use Rattle.translation.specs.Translated.{token_place, translated_by};
 ghost use Rattle.model.specs.Tokens.{token_used};

@@ -1,5 +1,7 @@
 // One request of a session, with the buffer that the reader has filled for it. What becomes of it is a value, its outcome, of
 // which the reply is made. A request that stores one element at most has what it sees of the tables; any other has the tables.
+#![tactic(auto)]
+
 ghost use Rattle.std.specs.Prelude.{◌+◌, ◌*◌, ◌≤◌, true, [], ◌≡◌, length};
 ghost use Rattle.model.specs.Classes.{class_of};
 ghost use Rattle.model.specs.Session.{line_text};
@@ -20,7 +22,7 @@ use model::{Answer, Call, Kind, Operation, Reply, Request, State};
 use views::View;
 
 // What became of a line: what it asked for, its answer, and how many bytes of its buffer are those that it moved.
-#[derive(Drop)]
+#[derive(Clone, Copy)]
 pub struct Outcome {
     pub request: Request,
     pub answer: Answer,
@@ -28,7 +30,7 @@ pub struct Outcome {
 }
 
 // What stands between two lines: whether a FRAMES has been done, whether check 1 holds, and the tables.
-#[derive(Drop)]
+#[derive(Clone, Copy)]
 pub struct Host {
     pub begun: bool,
     pub ready: bool,
@@ -36,7 +38,7 @@ pub struct Host {
 }
 
 // The same after a request that was carried out on whole tables, and its outcome.
-#[derive(Drop)]
+#[derive(Clone, Copy)]
 pub struct Changed {
     pub outcome: Outcome,
     pub begun: bool,
@@ -45,7 +47,7 @@ pub struct Changed {
 }
 
 // What the owner of the tables tells a request beside what it sees of them: the same, with F.
-#[derive(Drop)]
+#[derive(Clone, Copy)]
 pub struct Here {
     pub begun: bool,
     pub ready: bool,
@@ -54,7 +56,7 @@ pub struct Here {
 
 // A request is answered, and the owner of the tables has an element to store or a space to close. One that asks for whole tables
 // is not answered yet.
-#[derive(Drop)]
+#[derive(Clone, Copy)]
 pub enum Answered {
     To { outcome: Outcome, edit: Edit },
     Closing { outcome: Outcome, slot: u8 },

@@ -1,6 +1,8 @@
 // Two runs of one list of calls through `serve`, which differ in a byte first held in space 3 and in the data of a store that
 // reaches it: the list of which cases proofs `Instance` speaks. Only what guest 2 fetches from space 3 may differ; once space 3
 // is destroyed, the bytes of its frame are the same too.
+#![tactic(auto)]
+
 use model::{Call, Caller, Operation, Right, Settings, State};
 
 fn call(guest: u32, operation: Operation) -> Call {

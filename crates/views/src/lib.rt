@@ -1,5 +1,7 @@
 // What a call looks at in the tables: a few elements. Whoever owns the tables reads them out and hands them to the call, so
 // that no table is moved to it. Which elements they are is `view_of` of the specs.
+#![tactic(auto)]
+
 ghost use Rattle.std.specs.Prelude.{◌+◌, ◌/◌, ◌<◌, true, false, ◌≡◌};
 ghost use Rattle.asks.specs.declared.Sought.TheVariants.{Nothing};
 ghost use Rattle.views.specs.Search.{sought_by, search_by, search_through, search_for, Advanced};
@@ -12,7 +14,7 @@ use keys::Guard;
 use model::{BASE, Cpu, Entry, Guest, Permit, Space, Standing, State};
 
 // A search through the slots. While it is looking it comes to slot `at` next; then `at` is what it found, 32 for nothing.
-#[derive(Drop)]
+#[derive(Clone, Copy)]
 pub struct Search {
     pub sought: Sought,
     pub at: u8,
@@ -20,7 +22,7 @@ pub struct Search {
 }
 
 // A search through the first `end` entries of a list, in the same way. It ends at `end` where none may be taken.
-#[derive(Drop)]
+#[derive(Clone, Copy)]
 pub struct Taking {
     pub at: u8,
     pub end: u8,
@@ -31,7 +33,7 @@ pub struct Taking {
 // row; the token, and the entry that it names; the slot of the space, what stands there, and the other guest's permit for it;
 // the entry that may be taken, counted from 0, and what stands there; the caller's access key, and what protects the block of the
 // address and the block after it.
-#[derive(Drop)]
+#[derive(Clone, Copy)]
 pub struct View {
     pub place: usize,
     pub guest: Guest,

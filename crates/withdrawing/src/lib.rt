@@ -1,6 +1,8 @@
 // DESTROY and RESET. The first changes what belongs to one slot, the second what belongs to a guest. The slots of a guest's spaces
 // are a table of Booleans. Its last place is no slot and false: an entry that names no slot looks there, so that every
 // entry is looked up alike.
+#![tactic(auto)]
+
 ghost use Rattle.std.specs.Prelude.{◌*◌, ◌<◌, true, false, ◌≡◌, length};
 ghost use Rattle.lists.specs.Choice.{choose};
 ghost use Rattle.model.specs.Calls.{judge};

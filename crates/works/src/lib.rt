@@ -1,4 +1,6 @@
 // Work on lines that come in pieces, whichever it is.
+#![tactic(auto)]
+
 ghost use Rattle.std.specs.Prelude.{◌≤◌, true, length};
 ghost use Rattle.feeds.specs.Fed.{FedTo, FinishedTo};
 ghost use Rattle.works.specs.Fed.{feed_by};
@@ -8,14 +10,14 @@ use rewriting::Rewriting;
 
 // What is done with lines, and where it stands. A session answers them; or they are written again, and then the session counts only
 // for the number of the next line and for how many bytes of it are held.
-#[derive(Drop)]
+#[derive(Clone, Copy)]
 pub struct Work {
     pub rewrites: bool,
     pub session: Session,
 }
 
 // What became of a piece: where the work stands after it, how many of its bytes were taken, and how many bytes were written.
-#[derive(Drop)]
+#[derive(Clone, Copy)]
 pub struct Fed {
     pub work: Work,
     pub used: usize,

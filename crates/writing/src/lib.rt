@@ -1,5 +1,7 @@
 // One line of a session, written: what `lines` reads back. What is written is `written` of the model, and what is answered
 // `write_answer`.
+#![tactic(auto)]
+
 ghost use Rattle.std.specs.Prelude.{◌+◌, ◌≤◌, ◌<◌, true, ◌++◌, ◌≡◌, length};
 ghost use Rattle.model.specs.Lines.{calls, form_at};
 ghost use Rattle.model.specs.Written.{field_texts, tabbed, takes_fields, write_answer, buffer_after};
