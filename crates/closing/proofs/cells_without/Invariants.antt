@@ -1,0 +1,10 @@
+use Prim.Native.Nat.{◌+◌, ◌-◌, ◌≤◌}
+use native.Mathlib.Omega.{arith}
+use borrow.Author.Rules.{rules}
+use Rattle.model.specs.Tables.{no_cell}
+use Rattle.closing.proofs.Closed.{turns, cells_done}
+use Rattle.closing.proofs.Ranges.{Ranged}
+use Rattle.closing.proofs.cells_without.Given as goal
+
+abbrev pub invariant-loop-f : goal.invariant-loop-f
+invariant-loop-f l = (l.f ≤ l.i + l.pages) × Ranged (λ c. no_cell) l.i l.f l.initial.cells l.cells

@@ -1,0 +1,15 @@
+use Prim.Native.Nat.{◌+◌, ◌*◌, ◌-◌, ◌≤◌}
+use native.Mathlib.Omega.{arith}
+use lib.Dec.{eqb}
+use borrow.Author.Rules.{rules}
+use Rattle.model.specs.Changes.{revoked}
+use Rattle.closing.proofs.Closed.{turns, entries_done}
+use Rattle.closing.proofs.Ranges.{Ranged}
+use Rattle.closing.proofs.entries_without.Given as goal
+
+-- above it. Assumes nothing.
+abbrev pub invariant-loop-k : goal.invariant-loop-k
+invariant-loop-k l = (l.k ≤ l.list * 30) × Ranged (revoked (eqb l.slot)) 0 l.k l.initial.entries l.entries
+
+abbrev pub invariant-loop-k-2 : goal.invariant-loop-k-2
+invariant-loop-k-2 l = Ranged (revoked (eqb l.slot)) (l.list * 30 + 30) l.k l.initial.entries l.entries

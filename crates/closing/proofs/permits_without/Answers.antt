@@ -1,0 +1,16 @@
+use Prim.Native.Nat.{◌+◌, ◌*◌, ◌-◌, ◌≤◌}
+use native.Mathlib.Omega.{arith}
+use borrow.Author.Rules.{rules}
+use Rattle.model.specs.Tables.{no_permit}
+use Rattle.closing.proofs.Closed.{turns, permits_done}
+use Rattle.closing.proofs.Ranges.{Ranged}
+use Rattle.closing.proofs.permits_without.Goals as goal
+
+pub loop-k-init : goal.loop-k-init
+loop-k-init c = (omega arith, search turns)
+
+pub loop-k-preserved : goal.loop-k-preserved
+loop-k-preserved c = (omega arith, search turns)
+
+pub returns : goal.returns
+returns c = search permits_done

@@ -1,0 +1,6 @@
+use borrow.Author.Rules.{rules}
+use Rattle.digits.proofs.Writing.{wrote_one}
+use Rattle.digits.proofs.put_byte.Goals as goal
+
+pub returns : goal.returns
+returns c = search wrote_one

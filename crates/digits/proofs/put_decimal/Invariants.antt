@@ -1,0 +1,9 @@
+use borrow.Author.Rules.{rules}
+use Rattle.digits.proofs.Decimals.{Digits, digits_start, digits_down, digits_turn, digits_end}
+use Rattle.digits.proofs.put_decimal.Given as goal
+
+abbrev pub invariant-loop-rest : goal.invariant-loop-rest
+invariant-loop-rest l = Digits l.initial.out l.at l.n l.out l.i l.rest
+
+abbrev pub decreases-loop-rest : goal.decreases-loop-rest
+decreases-loop-rest l = l.rest

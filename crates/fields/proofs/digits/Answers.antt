@@ -1,0 +1,30 @@
+use Rattle.std.proofs.Common.{◌≡◌, ◌-◌, true, length, rules}
+use Rattle.model.specs.Lines.{plain}
+use Rattle.fields.specs.Fields.{field_from}
+use Rattle.fields.proofs.FieldEnds.{at_tab, past_end}
+use Rattle.fields.proofs.Readings.{Decimal, decimal_start, decimal_plain, decimal_turn, decimal_fits, decimal_other, decimal_large, decimal_done}
+use Rattle.fields.proofs.digits.Goals as goal
+
+pub loop-i-init : goal.loop-i-init
+loop-i-init c = (search decimal_start, search decimal_plain)
+
+pub returns-then-b-eq9 : goal.returns-then-b-eq9
+returns-then-b-eq9 c = search (decimal_done, at_tab)
+
+pub returns-then-d-gt9 : goal.returns-then-d-gt9
+returns-then-d-gt9 c = search decimal_other
+
+pub returns-then-v-gt429496729 : goal.returns-then-v-gt429496729
+returns-then-v-gt429496729 c = search decimal_large
+
+pub overflow_add-v : goal.overflow_add-v
+overflow_add-v c = search decimal_fits
+
+pub loop-i-preserved : goal.loop-i-preserved
+loop-i-preserved c =
+    let in-loop = c.before.before.before.before.before in
+    let digit = c.wrapping_sub_u8-d.ensures in
+    (decimal_turn _ _ _ _ in-loop.before.loop.invariant.0 in-loop.loop-test.true _ digit c.if-d-gt9.false _ c.wide.ensures, in-loop.before.loop.invariant.1)
+
+pub returns : goal.returns
+returns c = search (decimal_done, past_end)

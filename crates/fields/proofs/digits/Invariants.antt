@@ -1,0 +1,12 @@
+use Rattle.std.proofs.Common.{◌≡◌, ◌-◌, true, length, rules}
+use Rattle.model.specs.Lines.{plain}
+use Rattle.fields.specs.Fields.{field_from}
+use Rattle.fields.proofs.FieldEnds.{at_tab, past_end}
+use Rattle.fields.proofs.Readings.{Decimal, decimal_start, decimal_plain, decimal_turn, decimal_fits, decimal_other, decimal_large, decimal_done}
+use Rattle.fields.proofs.digits.Given as goal
+
+abbrev pub invariant-loop-i : goal.invariant-loop-i
+invariant-loop-i l = Decimal l.line l.start l.v l.i × (plain (field_from l.line l.start) ≡ true)
+
+abbrev pub decreases-loop-i : goal.decreases-loop-i
+decreases-loop-i l = length l.line - l.i

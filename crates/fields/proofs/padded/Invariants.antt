@@ -1,0 +1,9 @@
+use Rattle.fields.proofs.Readings.{Padding, padding_start, padding_turn, padding_scaled, padding_fits, padding_end}
+use Rattle.std.proofs.Common.{◌-◌, rules}
+use Rattle.fields.proofs.padded.Given as goal
+
+abbrev pub invariant-loop-k : goal.invariant-loop-k
+invariant-loop-k l = Padding l.v l.n l.p l.k
+
+abbrev pub decreases-loop-k : goal.decreases-loop-k
+decreases-loop-k l = 8 - l.k

@@ -1,0 +1,9 @@
+use Prim.Native.Nat.{◌-◌, ◌≤◌}
+use native.Mathlib.Omega.{arith}
+use borrow.Author.Rules.{rules}
+use Rattle.frames.proofs.Freeing.{ClearedBelow, clearing}
+use Rattle.frames.proofs.clear_data.Given as goal
+
+-- Assumes nothing.
+abbrev pub invariant-loop-u : goal.invariant-loop-u
+invariant-loop-u l = (l.u ≤ 32) × ClearedBelow l.spaces l.guest l.initial.scratch l.u l.scratch

@@ -1,0 +1,7 @@
+use native.Mathlib.Omega.{arith}
+use borrow.Author.Rules.{rules}
+use Rattle.held.proofs.Held.{hold_part}
+use Rattle.held.proofs.hold.Goals as goal
+
+pub returns : goal.returns
+returns c = search (hold_part, arith)

@@ -1,0 +1,6 @@
+use borrow.Author.Rules.{rules}
+use Rattle.letters.proofs.Texts.{name_taken}
+use Rattle.letters.proofs.takes_name.Goals as goal
+
+pub returns : goal.returns
+returns c = search name_taken

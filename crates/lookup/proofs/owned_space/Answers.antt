@@ -1,0 +1,6 @@
+use Rattle.lookup.proofs.Owning.{owned_by_row}
+use borrow.Author.Rules.{rules}
+use Rattle.lookup.proofs.owned_space.Goals as goal
+
+pub returns : goal.returns
+returns c = search owned_by_row

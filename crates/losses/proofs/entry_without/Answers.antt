@@ -1,0 +1,6 @@
+use borrow.Author.Rules.{rules}
+use Rattle.losses.proofs.Looks.{without_slot}
+use Rattle.losses.proofs.entry_without.Goals as goal
+
+pub returns : goal.returns
+returns c = search without_slot

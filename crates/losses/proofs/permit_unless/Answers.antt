@@ -1,0 +1,9 @@
+use Rattle.lists.proofs.Rules.{tests}
+use borrow.Author.Rules.{rules}
+use Rattle.losses.proofs.permit_unless.Goals as goal
+
+pub returns-then-closed : goal.returns-then-closed
+returns-then-closed c = search tests
+
+pub returns : goal.returns
+returns c = search tests

@@ -1,0 +1,13 @@
+use Prim.Native.Nat.{◌+◌, ◌-◌, ◌*◌, ◌≤◌, ◌<◌}
+use mathlib.Core.Path.{◌≡◌, refl}
+use borrow.Author.Rules.{rules}
+use native.Mathlib.Omega.{arith}
+use Rattle.permitted.specs.Columns.{owner_in, limit_at}
+use Rattle.permitted.proofs.Tables.{Filling, fill_start, limit_enter, limit_go, limit_row, limit_end}
+use Rattle.permitted.proofs.limits_of.Given as goal
+
+abbrev pub invariant-loop-k : goal.invariant-loop-k
+invariant-loop-k l = (l.u < 32) × (l.k ≤ 8) × (l.o ≡ owner_in l.tags l.u) × Filling l.limits (limit_at l.may l.tags) 256 (l.u * 8 + l.k)
+
+abbrev pub invariant-loop-u : goal.invariant-loop-u
+invariant-loop-u l = (l.u ≤ 32) × Filling l.limits (limit_at l.may l.tags) 256 (l.u * 8)

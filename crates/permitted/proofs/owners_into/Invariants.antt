@@ -1,0 +1,7 @@
+use Prim.Native.Nat.{◌-◌}
+use borrow.Author.Rules.{rules}
+use Rattle.permitted.proofs.Tables.{Powered, power_start, power_go, power_end}
+use Rattle.permitted.proofs.owners_into.Given as goal
+
+abbrev pub invariant-loop-u : goal.invariant-loop-u
+invariant-loop-u l = Powered l.tags l.initial.powers l.powers l.u

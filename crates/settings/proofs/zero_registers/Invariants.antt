@@ -1,0 +1,10 @@
+use Prim.Native.Nat.{◌-◌}
+use lib.Dec.{eqb}
+use lib.ListN.{get_or}
+use borrow.Author.Rules.{rules}
+use Rattle.lists.specs.Places.{every}
+use Rattle.lists.proofs.Loops.{Left, lefts}
+use Rattle.settings.proofs.zero_registers.Given as goal
+
+abbrev pub invariant-loop-i : goal.invariant-loop-i
+invariant-loop-i l = Left (every (λ k. eqb (get_or l.registers k 0) 0) 16) (λ k. eqb (get_or l.registers k 0) 0) l.i 16

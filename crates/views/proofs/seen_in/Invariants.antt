@@ -1,0 +1,22 @@
+use Prim.Native.Nat.{◌<◌}
+use mathlib.Core.Bool.{true}
+use mathlib.Core.Path.{◌≡◌, refl}
+use Rattle.views.specs.Search.{found_by, left_of}
+use Rattle.views.specs.Taking.{taken_by, left_in, WithinList}
+use Rattle.views.proofs.Lists.{within_list, took_on, took_within, took_nearer}
+use Rattle.views.proofs.Seen.{view_read}
+use Rattle.views.proofs.Slots.{at_inside, went_on, went_nearer, went_inside}
+use borrow.Author.Rules.{rules}
+use Rattle.views.proofs.seen_in.Given as goal
+
+abbrev pub invariant-loop-search : goal.invariant-loop-search
+invariant-loop-search l = (found_by l.search l.s.spaces ≡ found_by l.initial.search l.s.spaces) × (l.search.looking ≡ true → l.search.at < 32)
+
+abbrev pub decreases-loop-search : goal.decreases-loop-search
+decreases-loop-search l = left_of l.search
+
+abbrev pub invariant-loop-take : goal.invariant-loop-take
+invariant-loop-take l = (taken_by l.take l.s.entries l.row ≡ taken_by l.initial.take l.s.entries l.row) × WithinList l.take
+
+abbrev pub decreases-loop-take : goal.decreases-loop-take
+decreases-loop-take l = left_in l.take

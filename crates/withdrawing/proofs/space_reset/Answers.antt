@@ -1,0 +1,5 @@
+use borrow.Author.Rules.{rules}
+use Rattle.withdrawing.proofs.space_reset.Goals as goal
+
+pub returns : goal.returns
+returns c = rw (← c.is_data.ensures) c.space_unless.ensures

@@ -1,0 +1,14 @@
+use Prim.Native.Nat.{◌≤◌, ◌-◌}
+use mathlib.Core.Path.{◌≡◌}
+use native.Mathlib.Omega.{arith}
+use Rattle.lists.proofs.Rules.{maps}
+use Rattle.lists.proofs.Maps.{map_below}
+use Rattle.lists.specs.Choice.{choose}
+use Rattle.model.specs.Changes.{unpermitted, permit_slot}
+use Rattle.model.specs.Leaves.{flag}
+use Rattle.model.specs.Tables.{no_permit}
+use borrow.Author.Rules.{rules}
+use Rattle.withdrawing.proofs.unpermit.Given as goal
+
+abbrev pub invariant-loop-k : goal.invariant-loop-k
+invariant-loop-k l = (l.k ≤ 256) × (l.t ≡ map_below (λ j p. choose (flag l.closed (permit_slot j)) no_permit p) l.k l.initial.t)
