@@ -7,6 +7,7 @@ ghost use Rattle.model.specs.Answers.{limit_number, names_argument, number as nu
 use model::{Answer, Kind};
 
 // The number for an argument outside its limits, by its kind.
+#[tactic(auto, unfolding(model::specs::Answers::limit_number))]
 fn limit_number(kind: Kind) -> u32
     ensures { result ≡ limit_number kind }
 {
@@ -35,6 +36,7 @@ pub fn names_argument(number: u32) -> bool
 }
 
 // The cases stand in the order of the enum.
+#[tactic(auto, unfolding(model::specs::Answers::number))]
 pub fn number(a: Answer) -> u32
     ensures { result ≡ number_of a }
 {
@@ -68,6 +70,7 @@ pub fn number(a: Answer) -> u32
 }
 
 // A call that was done has the value that its rule names, an argument outside its limits its place, and any other refusal 0.
+#[tactic(auto, unfolding(model::specs::Answers::value))]
 pub fn value(a: Answer) -> u32
     ensures { result ≡ value_of a }
 {

@@ -22,9 +22,8 @@ overflow_add-v c = search decimal_fits
 
 pub loop-i-preserved : goal.loop-i-preserved
 loop-i-preserved c =
-    let in-loop = c.before.before.before.before.before in
-    let digit = c.wrapping_sub_u8-d.ensures in
-    (decimal_turn _ _ _ _ in-loop.before.loop.invariant.0 in-loop.loop-test.true _ digit c.if-d-gt9.false _ c.wide.ensures, in-loop.before.loop.invariant.1)
+    let digit = c.wrapping_sub_u8-d.ensures.value in
+    (decimal_turn _ _ _ _ c.loop-i.invariant.0 c.loop-i-test.true _ digit c.if-d-gt9.false _ c.wide.ensures, c.loop-i.invariant.1)
 
 pub returns : goal.returns
 returns c = search (decimal_done, past_end)

@@ -6,7 +6,7 @@ use Rattle.permitted.proofs.Tables.{Filling, may_start, may_go, may_row, may_ent
 use Rattle.permitted.proofs.may_table.Goals as goal
 
 pub loop-i-init : goal.loop-i-init
-loop-i-init c = (omega arith, may_start c.args.t1)
+loop-i-init c = (omega arith, may_start c.args.guests)
 
 pub loop-k-init : goal.loop-k-init
 loop-k-init c = search (may_enter, arith)

@@ -1,3 +1,5 @@
+use mathlib.Core.Bool.{not}
+use mathlib.Core.Path.{ap}
 use native.Mathlib.Omega.{arith}
 use Rattle.model.specs.Calls.{enrols}
 use Rattle.edits.proofs.Kept.{decided_bad}
@@ -19,7 +21,7 @@ pub returns-then-not-has_room : goal.returns-then-not-has_room
 returns-then-not-has_room c = search add_full
 
 pub overflow_cast-result-3 : goal.overflow_cast-result-3
-overflow_cast-result-3 c = record { fits = free_byte c.args.v.place c.args.v.free _ _ (omega (arith, c.if-at-ge8.false)) c.has_room.ensures c.if-not-has_room.false }
+overflow_cast-result-3 c = record { fits = free_byte c.args.v.place c.args.v.free _ _ (omega (arith, c.if-at-ge8.false)) c.has_room.ensures (ap not c.if-not-has_room.false) }
 
 pub returns : goal.returns
 returns c = search add_done

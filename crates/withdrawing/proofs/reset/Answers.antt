@@ -12,3 +12,9 @@ returns-then-at-ge8 c = search (steps, places)
 
 pub returns : goal.returns
 returns c = search reset_done
+
+pub blank_frames-cells_after-requires : goal.blank_frames-cells_after-requires
+blank_frames-cells_after-requires c = search runs_in_table
+
+pub clear_data-requires : goal.clear_data-requires
+clear_data-requires c = search runs_in_scratch
