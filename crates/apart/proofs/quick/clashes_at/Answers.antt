@@ -1,0 +1,14 @@
+use Prim.Native.Nat.{◌+◌, ◌-◌}
+use Rattle.apart.specs.Warns.{ClearIn}
+use Rattle.apart.proofs.Warns.{Sum, sums}
+use borrow.Author.Rules.{rules}
+use Rattle.apart.proofs.quick.clashes_at.Goals as goal
+
+pub loop-u-init : goal.loop-u-init
+loop-u-init c = search sums
+
+pub loop-u-preserved : goal.loop-u-preserved
+loop-u-preserved c = search sums depth 6
+
+pub returns : goal.returns
+returns c = search sums

@@ -1,0 +1,15 @@
+use Prim.Native.Nat.{◌-◌}
+use Rattle.apart.specs.Rings.{ids_of, names_of, firsts_of, ends_of}
+use Rattle.apart.proofs.Rings.{Filling, ring_start, ring_go}
+use Rattle.apart.proofs.Whole.{none_apart}
+use borrow.Author.Rules.{rules}
+use Rattle.apart.proofs.quick.surely_apart.Goals as goal
+
+pub loop-u-init : goal.loop-u-init
+loop-u-init c = search ring_start
+
+pub loop-u-preserved : goal.loop-u-preserved
+loop-u-preserved c = (search ring_go, search ring_go, search ring_go, search ring_go)
+
+pub returns : goal.returns
+returns c = search none_apart

@@ -1,0 +1,10 @@
+use Prim.Native.Nat.{◌-◌, ◌≤◌}
+use mathlib.Core.Path.{◌≡◌}
+use lib.ListN.{get_or}
+use borrow.Author.Rules.{rules}
+use Rattle.cells.specs.Weights.{most_of}
+use Rattle.cells.proofs.Weights.{mosts}
+use Rattle.cells.proofs.heaviest.Given as goal
+
+abbrev pub invariant-loop-f : goal.invariant-loop-f
+invariant-loop-f l = (l.f ≤ 512) × (l.most ≡ most_of (λ k. get_or l.weights k 0) l.f)
