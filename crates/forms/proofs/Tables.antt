@@ -55,19 +55,10 @@ enough n = every (λ i. leb (length (form_at i).kinds) n) calls
 pub few_fields : (p n : ℕ) → enough n ≡ true → p < calls → length (form_at p).kinds ≤ n
 few_fields p n e h = leb-true (length (form_at p).kinds) n (every_at (λ i. leb (length (form_at i).kinds) n) calls e p h)
 
--- a number that is none of those below n, as a match tells it
-unfoldable pub NoneBelow : (p n : ℕ) → Type 0
-NoneBelow p zero = Unit {0}
-NoneBelow p (suc n) = NoneBelow p n × (p ≡ n → ⊥)
+-- a number that is no call's
+pub no_form_lem : (p : ℕ) → calls ≤ p → no_form ≡ form_at p
+no_form_lem p r = sym (get_or-eq_default forms no_form {n = p} r)
 
-above : (p n : ℕ) → NoneBelow p n → n ≤ p
-unfolding NoneBelow
-above p zero r = omega arith
-above p (suc n) r = omega (arith, above p n r.0, r.1)
-
-pub no_form_lem : (p : ℕ) → NoneBelow p calls → no_form ≡ form_at p
-no_form_lem p r = sym (get_or-eq_default forms no_form {n = p} (above p calls r))
-
-pub shaped_none : (p : ℕ) → NoneBelow p calls → 0 ≡ shape_of (form_at p).kinds
+pub shaped_none : (p : ℕ) → calls ≤ p → 0 ≡ shape_of (form_at p).kinds
 unfolding shape_of
 shaped_none p r = ap (λ f. shape_of f.kinds) (no_form_lem p r)

@@ -11,9 +11,11 @@ use Rattle.lists.proofs.Choice.{true_false, yes!, no! }
 use Rattle.model.specs.declared.Answer.{Answer}
 use Rattle.model.specs.declared.Call.{Call}
 use Rattle.model.specs.declared.Operation.{Operation}
-use Rattle.model.specs.declared.Operation.TheVariants.{Fetch}
+use Rattle.model.specs.declared.Operation.TheVariants.{Enrol, Create, Destroy, Permit, Isolate, Query, Add, Remove, Load, Mode, Fetch, Store, Reset, Key, Block}
 use Rattle.model.specs.declared.Request.{Request}
 use Rattle.model.specs.declared.Request.TheVariants as request
+use Rattle.model.specs.declared.Right.{Right}
+use Rattle.model.specs.declared.Settings.{Settings}
 use Rattle.model.specs.Answers.{number, value, names_argument}
 use Rattle.model.specs.Classes.{no_value, its_value}
 use Rattle.model.specs.Session.{LineOutcome, decimal, hex_text, dash, shown, done_text, request_text, refusal_text, value_text, line_text}
@@ -23,21 +25,35 @@ use Rattle.model.specs.contracts.Request as request-cases
 use Rattle.digits.specs.Wrote.{Wrote}
 use Rattle.digits.proofs.Writing.{wrote_more}
 
--- the calls by their places in the enum: those that give a number, ENROL, CREATE, QUERY and ADD; and those that give nothing,
--- all others but FETCH
+-- the calls that give a number, by their places in the enum: ENROL, CREATE, QUERY and ADD
 abbrev numbered : List ℕ
 numbered = 0 ∷ 1 ∷ 5 ∷ 6 ∷ []
-
-abbrev unshown : List ℕ
-unshown = 2 ∷ 3 ∷ 4 ∷ 7 ∷ 8 ∷ 9 ∷ 11 ∷ 12 ∷ 13 ∷ 14 ∷ []
 
 number_is : (o : Operation) (a : Answer) (m : List ℕ) → OneOf numbered (tag_of operation-cases.the_type o) → decimal (value a) ≡ done_text o a m
 unfolding done_text
 number_is o a m h = ap (λ v. shown v a m) (sym (shows_at numbered o h its_value refl))
 
-none_is : (o : Operation) (a : Answer) (m : List ℕ) → OneOf unshown (tag_of operation-cases.the_type o) → dash ≡ done_text o a m
+-- a call that is none of these, as a match's last arm tells it
+abbrev pub Unshown : Operation → Type 0
+Unshown o = ((s : Settings) → o ≡ Enrol s → ⊥) × ((n p : ℕ) → o ≡ Create n p → ⊥) × ((g n : ℕ) → o ≡ Query g n → ⊥) × ((i : ℕ) (r : Right) → o ≡ Add i r → ⊥) × ((r d : ℕ) → o ≡ Fetch r d → ⊥)
+
+none_is : (o : Operation) (a : Answer) (m : List ℕ) → Unshown o → dash ≡ done_text o a m
 unfolding done_text
-none_is o a m h = ap (λ v. shown v a m) (sym (shows_at unshown o h no_value refl))
+none_is (Enrol s) a m h = absurd (h.0 s refl)
+none_is (Create n p) a m h = absurd (h.1 n p refl)
+none_is (Destroy i) a m h = refl
+none_is (Permit i g r) a m h = refl
+none_is (Isolate i) a m h = refl
+none_is (Query g n) a m h = absurd (h.2 g n refl)
+none_is (Add i r) a m h = absurd (h.3 i r refl)
+none_is (Remove t) a m h = refl
+none_is (Load r v) a m h = refl
+none_is (Mode v) a m h = refl
+none_is (Fetch r d) a m h = absurd (h.4 r d refl)
+none_is (Store r d) a m h = refl
+none_is Reset a m h = refl
+none_is (Key k) a m h = refl
+none_is (Block i d k p) a m h = refl
 
 module _ {o o₁ : List ℕ} {p q : ℕ} (x : Operation) (a : Answer) (m : List ℕ) where
   pub number_done : {v : ℕ} → OneOf numbered (tag_of operation-cases.the_type x) → v ≡ value a → Wrote o p (decimal v) o₁ q → Wrote o p (done_text x a m) o₁ q
@@ -47,17 +63,17 @@ module _ {o o₁ : List ℕ} {p q : ℕ} (x : Operation) (a : Answer) (m : List 
   unfolding done_text
   bytes_done e w = rw e w
 
-  pub none_done : OneOf unshown (tag_of operation-cases.the_type x) → Wrote o p dash o₁ q → Wrote o p (done_text x a m) o₁ q
+  pub none_done : Unshown x → Wrote o p dash o₁ q → Wrote o p (done_text x a m) o₁ q
   none_done h w = rw (← none_is x a m h) w
 
 -- a call, and what is no call
 abbrev outcome : Request → Answer → List ℕ → LineOutcome
 outcome r a m = record { request = r; answer = a; moved = m }
 
-none_asked : (r : Request) (a : Answer) (m : List ℕ) → OneOf (0 ∷ 2 ∷ []) (tag_of request-cases.the_type r) → dash ≡ request_text r a m
+none_asked : (r : Request) (a : Answer) (m : List ℕ) → ((k : Call) (n : ℕ) → r ≡ request.Call k n → ⊥) → dash ≡ request_text r a m
 unfolding request_text
 none_asked (request.Frames f) a m h = refl
-none_asked (request.Call k n) a m h = absurd (miss (0 ∷ 2 ∷ []) 1 tt h)
+none_asked (request.Call k n) a m h = absurd (h k n refl)
 none_asked request.NotRead a m h = refl
 
 -- a line was done, or was refused and names an argument or doesn't, by the number of its answer
@@ -82,7 +98,7 @@ module _ {o o₁ : List ℕ} {p q : ℕ} (r : Request) (a : Answer) (m : List �
   unfolding refusal_text
   refused_value is t f w = rw (refused_text r a m (λ z. f (e ∙ z)), no! (decimal (value a)) dash (ap names_argument (sym e) ∙ sym is ∙ t)) w
 
-  pub no_call_value : n ≡ 0 → OneOf (0 ∷ 2 ∷ []) (tag_of request-cases.the_type r) → Wrote o p dash o₁ q → Wrote o p (value_text (outcome r a m)) o₁ q
+  pub no_call_value : n ≡ 0 → ((k : Call) (l : ℕ) → r ≡ request.Call k l → ⊥) → Wrote o p dash o₁ q → Wrote o p (value_text (outcome r a m)) o₁ q
   no_call_value z h w = rw (done_text_lem r a m (sym e ∙ z), ← none_asked r a m h) w
 
   pub call_value : {k : Call} {l : ℕ} → n ≡ 0 → r ≡ request.Call k l → Wrote o p (done_text k.operation a m) o₁ q → Wrote o p (value_text (outcome r a m)) o₁ q

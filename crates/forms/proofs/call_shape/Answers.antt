@@ -3,7 +3,7 @@ use mathlib.Core.Path.{refl}
 use Rattle.model.specs.Lines.{forms}
 use Rattle.fields.specs.Fields.{kind_number}
 use Rattle.forms.specs.Tables.{shape_of}
-use Rattle.forms.proofs.Tables.{shaped, NoneBelow, shaped_none}
+use Rattle.forms.proofs.Tables.{shaped, shaped_none}
 use Rattle.forms.proofs.call_shape.Goals as goal
 
 pub returns-in-0 : goal.returns-in-0
@@ -55,5 +55,5 @@ pub returns-in-15 : goal.returns-in-15
 returns-in-15 c = shaped _ 15 _ (omega arith) (unfold forms shape_of kind_number in refl)
 
 pub returns-in_default : goal.returns-in_default
-unfolding forms NoneBelow
-returns-in_default c = shaped_none _ c.in-0.rest
+unfolding forms
+returns-in_default c = shaped_none _ (omega arith)

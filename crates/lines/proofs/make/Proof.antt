@@ -3,7 +3,6 @@ use native.Mathlib.Omega.{arith}
 use mathlib.Core.Path.{refl}
 use Rattle.model.specs.Lines.{forms}
 use Rattle.lines.specs.Made.{low, lowered, made_by}
-use Rattle.forms.proofs.Tables.{NoneBelow}
 use Rattle.lines.proofs.Tables.{made, made_none}
 use borrow.Author.Rules.{rules}
 use Rattle.lines.proofs.make.Statement.{statement}
@@ -58,8 +57,8 @@ returns-16 : tie.Need-returns-16
 returns-16 c = made _ 15 _ _ (omega arith) (unfold forms lowered low made_by in rw c.asked15.ensures)
 
 returns-17 : tie.Need-returns-17
-unfolding forms NoneBelow
-returns-17 c = made_none _ _ c.match.rest
+unfolding forms
+returns-17 c = made_none _ _ (omega arith)
 
 pub make_spec : {M : Type 1} → statement M
 make_spec =

@@ -1,6 +1,6 @@
 use Prim.Native.Nat.{◌-◌, ◌<◌}
 use mathlib.Core.Bool.{true}
-use mathlib.Core.Path.{◌≡◌}
+use mathlib.Core.Path.{◌≡◌, sym, ◌∙◌}
 use native.Mathlib.Omega.{arith}
 use borrow.Author.Rules.{rules}
 use Rattle.lists.proofs.Rules.{and_go, and_stop, test_yes}
@@ -9,82 +9,64 @@ use Rattle.listed.specs.Standings.{standings_with, above_test}
 use Rattle.listed.proofs.Passes.{standing_at, standings_at, untouched_at, above_at, above_stop}
 use Rattle.listed.proofs.entries_ok.Goals as goal
 
+pub loop-i-init : goal.loop-i-init
+unfolding standings_with
+loop-i-init c = search lefts depth 6
+
+pub loop-k-init : goal.loop-k-init
+loop-k-init c = search lefts depth 6
+
+pub bounds-entries-k : goal.bounds-entries-k
+bounds-entries-k c = search rules
+
+pub standing_ok-requires : goal.standing_ok-requires
+standing_ok-requires c = search rules
+
 pub returns-then-not-standing_ok : goal.returns-then-not-standing_ok
 returns-then-not-standing_ok c = search (and_stop, lefts) depth 8
 
-loop2-less :
-    tie.Need-loop2-smaller invariant-loop2 decreases-loop2 invariant-loop decreases-loop invariant-loop4 decreases-loop4 invariant-loop3 decreases-loop3
-loop2-less c = search rules
+pub loop-k-smaller : goal.loop-k-smaller
+loop-k-smaller c = search rules
 
-loop2-again :
-    tie.Need-loop2-preserved invariant-loop2 decreases-loop2 invariant-loop decreases-loop invariant-loop4 decreases-loop4 invariant-loop3 decreases-loop3
-loop2-again c = let i = c.loop-k.invariant in (i.0, i.1, left_go _ _ _ _ i.2 (omega arith) (test_yes _ _ c.standing_ok.ensures c.if-not-standing_ok.false))
+pub loop-k-preserved : goal.loop-k-preserved
+loop-k-preserved c = let i = c.loop-k.invariant in (i.0, i.1, left_go _ _ _ _ i.2 (omega arith) (sym c.standing_ok.ensures ∙ c.if-not-standing_ok.false))
 
-loop-less :
-    tie.Need-loop-smaller invariant-loop2 decreases-loop2 invariant-loop decreases-loop invariant-loop4 decreases-loop4 invariant-loop3 decreases-loop3
-loop-less c = search rules
+pub loop-i-smaller : goal.loop-i-smaller
+loop-i-smaller c = search rules
 
-loop-again :
-    tie.Need-loop-preserved invariant-loop2 decreases-loop2 invariant-loop decreases-loop invariant-loop4 decreases-loop4 invariant-loop3 decreases-loop3
-loop-again c = search lefts depth 6
+pub loop-i-preserved : goal.loop-i-preserved
+loop-i-preserved c = search lefts depth 6
 
-loop3-holds :
-    tie.Need-loop3-init invariant-loop2 decreases-loop2 invariant-loop decreases-loop invariant-loop4 decreases-loop4 invariant-loop3 decreases-loop3
+pub loop-k-2-init : goal.loop-k-2-init
 unfolding above_test
-loop3-holds c = (search lefts depth 6, search lefts depth 6)
+loop-k-2-init c = (search lefts depth 6, search lefts depth 6)
 
-array-copy-out-g :
-    tie.Need-array-copy-out-g invariant-loop2 decreases-loop2 invariant-loop decreases-loop invariant-loop4 decreases-loop4 invariant-loop3 decreases-loop3
-array-copy-out-g c = search rules
+pub bounds-guests-k : goal.bounds-guests-k
+bounds-guests-k c = search rules
 
-loop4-holds :
-    tie.Need-loop4-init invariant-loop2 decreases-loop2 invariant-loop decreases-loop invariant-loop4 decreases-loop4 invariant-loop3 decreases-loop3
-loop4-holds c = search lefts depth 6
+pub loop-i-2-init : goal.loop-i-2-init
+loop-i-2-init c = search lefts depth 6
 
-array-copy-out-e-2 :
-    tie.Need-array-copy-out-e-2
-    invariant-loop2
-    decreases-loop2
-    invariant-loop
-    decreases-loop
-    invariant-loop4
-    decreases-loop4
-    invariant-loop3
-    decreases-loop3
-array-copy-out-e-2 c = search rules
+pub bounds-entries-k-in-loop-i-2 : goal.bounds-entries-k-in-loop-i-2
+bounds-entries-k-in-loop-i-2 c = search rules
 
-untouched-requires :
-    tie.Need-untouched-requires
-    invariant-loop2
-    decreases-loop2
-    invariant-loop
-    decreases-loop
-    invariant-loop4
-    decreases-loop4
-    invariant-loop3
-    decreases-loop3
-untouched-requires c κs = search rules
+pub untouched-requires : goal.untouched-requires
+untouched-requires c = search rules
 
-returns-2 :
-    tie.Need-returns-2 invariant-loop2 decreases-loop2 invariant-loop decreases-loop invariant-loop4 decreases-loop4 invariant-loop3 decreases-loop3
-returns-2 c = search above_stop
+pub returns-then-not-untouched : goal.returns-then-not-untouched
+returns-then-not-untouched c = search above_stop
 
-loop4-less :
-    tie.Need-loop4-smaller invariant-loop2 decreases-loop2 invariant-loop decreases-loop invariant-loop4 decreases-loop4 invariant-loop3 decreases-loop3
-loop4-less c = search rules
+pub loop-i-2-smaller : goal.loop-i-2-smaller
+loop-i-2-smaller c = search rules
 
-loop4-again :
-    tie.Need-loop4-preserved invariant-loop2 decreases-loop2 invariant-loop decreases-loop invariant-loop4 decreases-loop4 invariant-loop3 decreases-loop3
-loop4-again c = search lefts depth 6
+pub loop-i-2-preserved : goal.loop-i-2-preserved
+loop-i-2-preserved c = search lefts depth 6
 
-loop3-less :
-    tie.Need-loop3-smaller invariant-loop2 decreases-loop2 invariant-loop decreases-loop invariant-loop4 decreases-loop4 invariant-loop3 decreases-loop3
-loop3-less c = search rules
+pub loop-k-2-smaller : goal.loop-k-2-smaller
+loop-k-2-smaller c = search rules
 
-loop3-again :
-    tie.Need-loop3-preserved invariant-loop2 decreases-loop2 invariant-loop decreases-loop invariant-loop4 decreases-loop4 invariant-loop3 decreases-loop3
-loop3-again c = search lefts depth 6
+pub loop-k-2-preserved : goal.loop-k-2-preserved
+loop-k-2-preserved c = search lefts depth 6
 
-returns-3 :
-    tie.Need-returns-3 invariant-loop2 decreases-loop2 invariant-loop decreases-loop invariant-loop4 decreases-loop4 invariant-loop3 decreases-loop3
-returns-3 c = search (and_go, lefts) depth 8
+pub returns : goal.returns
+returns c = search (and_go, lefts) depth 8

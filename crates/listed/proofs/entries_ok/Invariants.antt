@@ -16,38 +16,7 @@ abbrev pub invariant-loop-i : goal.invariant-loop-i
 invariant-loop-i l = Left (standings_with l.powers l.entries) (standings_at l.powers l.entries) l.i 30
 
 abbrev pub invariant-loop-i-2 : goal.invariant-loop-i-2
-invariant-loop-i-2 l = (l.l.k < 8) × (standings_with l.l.powers l.l.entries ≡ true) × Left (above_test l.l.guests l.l.entries) (above_at l.l.guests l.l.entries) l.l.k 8 × Left (above_at l.l.guests l.l.entries l.l.k) (untouched_at l.l.entries l.l.k) l.i 30
-
-abbrev pub decreases-loop-i-2 : goal.decreases-loop-i-2
-decreases-loop-i-2 l = 30 - l.i
+invariant-loop-i-2 l = (l.k < 8) × (standings_with l.powers l.entries ≡ true) × Left (above_test l.guests l.entries) (above_at l.guests l.entries) l.k 8 × Left (above_at l.guests l.entries l.k) (untouched_at l.entries l.k) l.i 30
 
 abbrev pub invariant-loop-k-2 : goal.invariant-loop-k-2
 invariant-loop-k-2 l = (standings_with l.powers l.entries ≡ true) × Left (above_test l.guests l.entries) (above_at l.guests l.entries) l.k 8
-
-abbrev pub decreases-loop-k-2 : goal.decreases-loop-k-2
-decreases-loop-k-2 l = 8 - l.k
-
-loop-holds :
-    tie.Need-loop-init invariant-loop2 decreases-loop2 invariant-loop decreases-loop invariant-loop4 decreases-loop4 invariant-loop3 decreases-loop3
-unfolding standings_with
-loop-holds c = search lefts depth 6
-
-loop2-holds :
-    tie.Need-loop2-init invariant-loop2 decreases-loop2 invariant-loop decreases-loop invariant-loop4 decreases-loop4 invariant-loop3 decreases-loop3
-loop2-holds c = search lefts depth 6
-
-array-copy-out-e :
-    tie.Need-array-copy-out-e invariant-loop2 decreases-loop2 invariant-loop decreases-loop invariant-loop4 decreases-loop4 invariant-loop3 decreases-loop3
-array-copy-out-e c = search rules
-
-standing-ok-requires :
-    tie.Need-standing-ok-requires
-    invariant-loop2
-    decreases-loop2
-    invariant-loop
-    decreases-loop
-    invariant-loop4
-    decreases-loop4
-    invariant-loop3
-    decreases-loop3
-standing-ok-requires c κs = search rules

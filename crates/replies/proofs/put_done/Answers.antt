@@ -9,4 +9,4 @@ pub returns-in-Fetch : goal.returns-in-Fetch
 returns-in-Fetch c = record { wrote = search bytes_done; short = search rules }
 
 pub returns-in_default : goal.returns-in_default
-returns-in_default c = record { wrote = search none_done; short = search rules }
+returns-in_default c = record { wrote = let h = c.in_default in none_done _ _ _ (h.not-Enrol, h.not-Create, h.not-Query, h.not-Add, h.not-Fetch) c.put_byte.ensures; short = search rules }
