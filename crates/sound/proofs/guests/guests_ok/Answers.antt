@@ -1,0 +1,17 @@
+use native.Mathlib.Omega.{arith}
+use Prim.Native.Nat.{◌-◌}
+use borrow.Author.Rules.{rules}
+use Rattle.sound.proofs.GuestLoop.{Guests, guests_start, guests_go, guests_stop, guests_done}
+use Rattle.sound.proofs.guests.guests_ok.Goals as goal
+
+pub loop-k-init : goal.loop-k-init
+loop-k-init c = search guests_start
+
+pub returns-then-not-guest_ok : goal.returns-then-not-guest_ok
+returns-then-not-guest_ok c = search guests_stop
+
+pub loop-k-preserved : goal.loop-k-preserved
+loop-k-preserved c = guests_go _ _ _ _ _ c.loop-k.invariant _ (omega arith) c.guest_ok.ensures c.if-not-guest_ok.false
+
+pub returns : goal.returns
+returns c = search guests_done

@@ -1,0 +1,22 @@
+use Prim.Native.Nat.{◌-◌}
+use borrow.Author.Rules.{rules}
+use Rattle.model.specs.SoundTest.{slot_test}
+use Rattle.model.specs.Tables.{space_at}
+use Rattle.sound.specs.Columns.{tag_at, slots_test}
+use Rattle.permitted.proofs.Tables.{Filling, fill_start, fills}
+use Rattle.lists.proofs.Rules.{test_no, test_yes}
+use Rattle.lists.proofs.Loops.{Left, left_every, left_go}
+use Rattle.sound.proofs.SlotLoop.{slot_is, slots_stop, slots_done}
+use Rattle.sound.proofs.slots.slots_ok.Goals as goal
+
+pub loop-i-init : goal.loop-i-init
+loop-i-init c = (left_every _ _, fill_start _ _ 32 (search rules))
+
+pub returns-then-not-slot_ok : goal.returns-then-not-slot_ok
+returns-then-not-slot_ok c = search (slots_stop, slot_is, test_no) depth 6
+
+pub loop-i-preserved : goal.loop-i-preserved
+loop-i-preserved c = (search (left_go, slot_is, test_yes) depth 6, search fills)
+
+pub returns : goal.returns
+returns c = search slots_done
