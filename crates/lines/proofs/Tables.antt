@@ -1,5 +1,5 @@
 -- Which call a name names, and what its values make, by the call's number. Assumes nothing.
-use Prim.Native.Nat.{ℕ}
+use Prim.Native.Nat.{ℕ, ◌≤◌}
 use mathlib.Core.List.{List}
 use mathlib.Core.Path.{◌≡◌, ap}
 use lib.Dec.{eqb}

@@ -7,4 +7,4 @@ pub store_seen-requires : goal.store_seen-requires
 store_seen-requires c = search seen_run
 
 pub returns : goal.returns
-returns c = store_seen_in _ _ _ _ _ _ _ _ _ _ (search rules) c.asked_by.ensures c.seen_in-v.ensures c.store_seen.ensures
+returns c = let judged = store_seen_in _ _ _ _ _ _ _ _ _ _ (search rules) c.asked_by.ensures c.seen_in-v.ensures c.store_seen.ensures in record { value = judged.0; scratch_after = judged.1 }
