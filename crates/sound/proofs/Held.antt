@@ -13,26 +13,28 @@ use Rattle.model.specs.declared.Cpu.{Cpu}
 use Rattle.model.specs.declared.Entry.{Entry}
 use Rattle.model.specs.declared.State.{State}
 use Rattle.model.specs.Tables.{no_cpu, unused_entry}
+use Rattle.model.specs.contracts.Cpu as cpu
+use Rattle.model.specs.contracts.Entry as entry
 use Rattle.model.specs.contracts.State.{the_type}
 use Rattle.sound.specs.Held.{Held}
 
 -- what owning an element tells, at each place of an array
-at : {X Y : Type 0} (g : X → Y) (f : Y → List Val → Fml) (P : X → Type 0) → ((x : X) (us : List Val) → shadow (f (g x) us) → P x) → (xs : List X) (us : List Val) → shadow (each Y f (map g xs) us) → (d : X) (k : ℕ) → k < length xs → P (get_or xs k d)
-at g f P h [] us p d k l = absurd (omega arith)
-at g f P h (x ∷ xs) [] p d k l = absurd p
-at g f P h (x ∷ xs) (u ∷ us) p d zero l = h x (u ∷ []) p.0
-at g f P h (x ∷ xs) (u ∷ us) p d (suc k) l = at g f P h xs us p.1 d k (omega arith)
+at : {X : Type 0} (f : X → List Val → Fml) (P : X → Type 0) → ((x : X) (us : List Val) → shadow (f x us) → P x) → (xs : List X) (us : List Val) → shadow (each X f xs us) → (d : X) (k : ℕ) → k < length xs → P (get_or xs k d)
+at f P h [] us p d k l = absurd (omega arith)
+at f P h (x ∷ xs) [] p d k l = absurd p
+at f P h (x ∷ xs) (u ∷ us) p d zero l = h x (u ∷ []) p.0
+at f P h (x ∷ xs) (u ∷ us) p d (suc k) l = at f P h xs us p.1 d k (omega arith)
 
-pub held : (s : State) (vs : List Val) → shadow ((row the_type).own s vs) → Held s
+pub held : (s : State) (vs : List Val) → shadow ((row the_type).own_val s vs) → Held s
 held s vs p =
-    let cpus : length s.cpus ≡ 8 = simp length-map at p.1.1.1.1.1.1.0.1.0.1 in
-    let entries : length s.entries ≡ 240 = simp length-map at p.1.1.1.1.1.1.1.1.0.1.0.1 in
+    let cpus : length s.cpus ≡ 8 = p.1.1.1.1.1.1.0.1.0.1 in
+    let entries : length s.entries ≡ 240 = p.1.1.1.1.1.1.1.1.0.1.0.1 in
     record {
-      spaces = simp length-map at p.1.1.1.1.0.1.0.1;
-      guests = simp length-map at p.1.1.1.1.1.0.1.0.1;
+      spaces = p.1.1.1.1.0.1.0.1;
+      guests = p.1.1.1.1.1.0.1.0.1;
       cpus = cpus;
-      registers = λ k l. at _ _ (λ (c : Cpu). length c.registers ≡ 16) (λ c us h. simp length-map at h.1.1.0.1.0.1) s.cpus _ p.1.1.1.1.1.1.0.1.1 no_cpu k (omega arith);
-      permits = simp length-map at p.1.1.1.1.1.1.1.0.1.0.1;
+      registers = λ k l. at (cpu.the_row).own_val (λ (c : Cpu). length c.registers ≡ 16) (λ c us h. h.1.1.0.1.0.1) s.cpus _ p.1.1.1.1.1.1.0.1.1 no_cpu k (omega arith);
+      permits = p.1.1.1.1.1.1.1.0.1.0.1;
       entries = entries;
-      sequence = λ k l. at _ _ (λ (e : Entry). e.sequence < 256) (λ e us h. h.1.1.1.0.1) s.entries _ p.1.1.1.1.1.1.1.1.0.1.1 unused_entry k (omega arith);
+      sequence = λ k l. at (entry.the_row).own_val (λ (e : Entry). e.sequence < 256) (λ e us h. h.1.1.1.0.1) s.entries _ p.1.1.1.1.1.1.1.1.0.1.1 unused_entry k (omega arith);
     }

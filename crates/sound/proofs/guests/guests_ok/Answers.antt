@@ -1,3 +1,5 @@
+use mathlib.Core.Bool.{not}
+use mathlib.Core.Path.{ap}
 use native.Mathlib.Omega.{arith}
 use Prim.Native.Nat.{◌-◌}
 use borrow.Author.Rules.{rules}
@@ -11,7 +13,7 @@ pub returns-then-not-guest_ok : goal.returns-then-not-guest_ok
 returns-then-not-guest_ok c = search guests_stop
 
 pub loop-k-preserved : goal.loop-k-preserved
-loop-k-preserved c = guests_go _ _ _ _ _ c.loop-k.invariant _ (omega arith) c.guest_ok.ensures c.if-not-guest_ok.false
+loop-k-preserved c = guests_go _ _ _ _ _ c.loop-k.invariant _ (omega arith) c.guest_ok.ensures (ap not c.if-not-guest_ok.false)
 
 pub returns : goal.returns
 returns c = search guests_done
