@@ -1,0 +1,16 @@
+use Rattle.deciding.proofs.Decided.{whole_reset}
+use Rattle.deciding.proofs.Served.{cleared_as}
+use borrow.Author.Rules.{rules}
+use Rattle.turns.proofs.serve_whole.Goals as goal
+
+pub returns-in-Enrol : goal.returns-in-Enrol
+returns-in-Enrol c = search cleared_as
+
+pub returns-in-Create : goal.returns-in-Create
+returns-in-Create c = search cleared_as
+
+pub returns-in-Destroy : goal.returns-in-Destroy
+returns-in-Destroy c = search cleared_as
+
+pub returns-in_default : goal.returns-in_default
+returns-in_default c = search (cleared_as, whole_reset)

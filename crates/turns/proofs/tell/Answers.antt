@@ -1,0 +1,6 @@
+use Rattle.turns.proofs.Filled.{tell_moved}
+use borrow.Author.Rules.{rules}
+use Rattle.turns.proofs.tell.Goals as goal
+
+pub returns : goal.returns
+returns c = search tell_moved
