@@ -5,6 +5,7 @@ use mathlib.Core.Path.{◌≡◌, refl, subst, sym, ap}
 use types.Run.{OneOf, miss}
 use Rattle.model.specs.declared.Answer.{Answer}
 use Rattle.model.specs.declared.Operation.{Operation}
+use Rattle.model.specs.declared.Settings.{Settings}
 use Rattle.model.specs.declared.Operation.TheVariants.{Enrol, Create, Destroy, Permit, Isolate, Query, Add, Remove, Load, Mode, Fetch, Store, Reset, Key, Block}
 use Rattle.model.specs.declared.Right.{Right}
 use Rattle.model.specs.Classes.{no_bytes, class_of}
@@ -131,12 +132,9 @@ whole_unmoving _ (creates name pages) = refl
 whole_unmoving _ (destroys id) = refl
 whole_unmoving _ resets = refl
 
--- and the one that is none of the first three places is RESET
-abbrev pub later : List ℕ
-later = 3 ∷ 4 ∷ 5 ∷ 6 ∷ 7 ∷ 8 ∷ 9 ∷ 10 ∷ 11 ∷ 12 ∷ 13 ∷ 14 ∷ []
-
-pub whole_reset : (o : Operation) → AsksWhole o → OneOf later (place o) → o ≡ Reset
-whole_reset _ (enrols x) l = absurd (miss later 0 tt l)
-whole_reset _ (creates name pages) l = absurd (miss later 1 tt l)
-whole_reset _ (destroys id) l = absurd (miss later 2 tt l)
-whole_reset _ resets l = refl
+-- and the one that is none of the first three is RESET
+pub whole_reset : (o : Operation) → AsksWhole o → ((x : Settings) → o ≡ Enrol x → ⊥) → ((n p : ℕ) → o ≡ Create n p → ⊥) → ((i : ℕ) → o ≡ Destroy i → ⊥) → o ≡ Reset
+whole_reset _ (enrols x) no_enrol no_create no_destroy = absurd (no_enrol x refl)
+whole_reset _ (creates name pages) no_enrol no_create no_destroy = absurd (no_create name pages refl)
+whole_reset _ (destroys id) no_enrol no_create no_destroy = absurd (no_destroy id refl)
+whole_reset _ resets no_enrol no_create no_destroy = refl

@@ -5,8 +5,6 @@ use mathlib.Core.List.{List, [], ◌∷◌}
 use mathlib.Core.Path.{◌≡◌, refl, subst, sym, ap, ◌∙◌}
 use native.Mathlib.Nat.{sub-zero}
 use native.Mathlib.Omega.{arith}
-use denote.Enum.Declared.{tag_of}
-use types.Run.{OneOf}
 use lib.ListN.{length, take, replicate, length-take, length-replicate}
 use Rattle.lists.specs.Bytes.{over}
 use Rattle.lists.specs.Choice.{choose}
@@ -15,14 +13,12 @@ use Rattle.lists.proofs.Choice.{yes!, no! }
 use Rattle.lists.proofs.Parts.{take_replicate}
 use Rattle.model.specs.declared.Call.{Call}
 use Rattle.model.specs.declared.Operation.{Operation}
-use Rattle.model.specs.declared.Operation.TheVariants.{Fetch, Store}
+use Rattle.model.specs.declared.Operation.TheVariants.{Enrol, Create, Destroy, Permit, Isolate, Query, Add, Remove, Load, Mode, Fetch, Store, Reset, Key, Block}
 use Rattle.model.specs.declared.Request.{Request}
 use Rattle.model.specs.declared.Request.TheVariants.{Call as Asked}
 use Rattle.model.specs.Classes.{Moves, no_bytes, from_space, to_space, stores_bytes, class_of}
 use Rattle.model.specs.Lines.{stores, length_of}
 use Rattle.model.specs.Session.{filled, buffer_for, line_text}
-use Rattle.model.proofs.Classes.{unmoving_at}
-use Rattle.model.specs.contracts.Operation as operation-cases
 use Rattle.digits.specs.Wrote.{Wrote}
 use Rattle.turns.specs.declared.Outcome.{Outcome}
 use Rattle.model.specs.Parts.{data_in}
@@ -71,9 +67,23 @@ unfolding buffer_for
 part_given q k size n b g p c =
     rw (c, g) (part_of k size b (subst (λ (x : Request). Prepared x b) g p) (class_of k.operation).moves refl)
 
--- How long it is, call by call: the calls that move no bytes by their places in the enum.
-abbrev plain : List ℕ
-plain = 0 ∷ 1 ∷ 2 ∷ 3 ∷ 4 ∷ 5 ∷ 6 ∷ 7 ∷ 8 ∷ 9 ∷ 12 ∷ 13 ∷ 14 ∷ []
+-- How long it is, call by call: all but FETCH and STORE move no bytes.
+plain : (o : Operation) → ((r a : ℕ) → o ≡ Fetch r a → ⊥) → ((r a : ℕ) → o ≡ Store r a → ⊥) → (class_of o).moves ≡ no_bytes
+plain (Enrol x) f s = refl
+plain (Create n p) f s = refl
+plain (Destroy i) f s = refl
+plain (Permit i g r) f s = refl
+plain (Isolate i) f s = refl
+plain (Query g n) f s = refl
+plain (Add i r) f s = refl
+plain (Remove t) f s = refl
+plain (Load r v) f s = refl
+plain (Mode m) f s = refl
+plain (Fetch r a) f s = absurd (f r a refl)
+plain (Store r a) f s = absurd (s r a refl)
+plain Reset f s = refl
+plain (Key k) f s = refl
+plain (Block i a k m) f s = refl
 
 module _ (o : Operation) (n : ℕ) where
   pub length-fetch : (r a x : ℕ) → o ≡ Fetch r a → x ≡ min n 257 → x ≡ buffer_length (class_of o).moves n
@@ -84,9 +94,9 @@ module _ (o : Operation) (n : ℕ) where
   unfolding buffer_length
   length-store r a x e p = rw e p
 
-  pub length_none : OneOf plain (tag_of operation-cases.the_type o) → 0 ≡ buffer_length (class_of o).moves n
+  pub length_none : ((r a : ℕ) → o ≡ Fetch r a → ⊥) → ((r a : ℕ) → o ≡ Store r a → ⊥) → 0 ≡ buffer_length (class_of o).moves n
   unfolding buffer_length
-  length_none h = sym (ap (λ v. buffer_length v n) (unmoving_at plain o h refl))
+  length_none f s = sym (ap (λ v. buffer_length v n) (plain o f s))
 
 pub length_most : (x n : ℕ) → x ≡ min n 257 → x ≤ 257
 length_most x n e = omega arith

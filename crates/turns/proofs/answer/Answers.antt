@@ -12,6 +12,9 @@ returns-then-not-here-2 c = search unready_told
 pub slice_bounds-decide-end : goal.slice_bounds-decide-end
 slice_bounds-decide-end c = search seeing_room
 
+pub slice_bounds-decide-end-in-Call : goal.slice_bounds-decide-end-in-Call
+slice_bounds-decide-end-in-Call c = search part_within
+
 pub decide-requires : goal.decide-requires
 decide-requires c = search seeing_run
 

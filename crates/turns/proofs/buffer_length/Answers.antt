@@ -10,4 +10,4 @@ pub returns-in-Store : goal.returns-in-Store
 returns-in-Store c = (search length-store, search length_most)
 
 pub returns-in_default : goal.returns-in_default
-returns-in_default c = (search length_none, omega arith)
+returns-in_default c = (length_none _ _ c.in_default.not-Fetch c.in_default.not-Store, omega arith)

@@ -13,4 +13,4 @@ pub returns-in-Destroy : goal.returns-in-Destroy
 returns-in-Destroy c = search cleared_as
 
 pub returns-in_default : goal.returns-in_default
-returns-in_default c = search (cleared_as, whole_reset)
+returns-in_default c = let h = c.in_default in let reset = whole_reset _ c.requires.2 h.not-Enrol h.not-Create h.not-Destroy in search cleared_as
