@@ -1,0 +1,5 @@
+use Rattle.std.proofs.Common.{rules}
+use Rattle.driver.proofs.open.Goals as goal
+
+pub returns : goal.returns
+returns c = cc

@@ -1,0 +1,12 @@
+use Rattle.std.proofs.Common.{◌≡◌, ◌-◌, ◌<◌, ◌≤◌, length, refl, inl, arith, rules}
+use Rattle.feeds.specs.Fed.{Starts}
+use Rattle.feeds.proofs.Feeding.{going_start, fed_full, fed_whole, line_starts}
+use Rattle.rewriting.proofs.Turned.{Came, turned, held_part}
+use Rattle.rewriting.proofs.feed_lines.Given as goal
+
+abbrev pub invariant-loop-i : goal.invariant-loop-i
+invariant-loop-i l =     Came (record { l.line = l.initial.line; l.have = l.initial.have }) l.initial.held l.input l.initial.out l.i l.at (record { l.line = l.line; l.have = l.have }) l.held l.out
+    × (l.have ≤ 601) × (length l.held ≡ 601) × (length l.out ≡ length l.initial.out) × Starts l.input l.i × (l.at ≤ length l.initial.out)
+
+abbrev pub decreases-loop-i : goal.decreases-loop-i
+decreases-loop-i l = length l.input - l.i

@@ -1,0 +1,14 @@
+use borrow.Author.Rules.{rules}
+use Rattle.lists.proofs.Rules.{tests}
+use Rattle.calls.proofs.Ready.{ready_sound, ready_room, refuses}
+use Rattle.spaces.proofs.Ready.{fetches}
+use Rattle.spaces.proofs.fetch.Goals as goal
+
+pub returns-then-not-is_ready : goal.returns-then-not-is_ready
+returns-then-not-is_ready c = search (refuses, tests)
+
+pub fetch-requires : goal.fetch-requires
+fetch-requires c = search (rules, tests, ready_sound, ready_room)
+
+pub returns : goal.returns
+returns c = search (fetches, tests)
