@@ -17,7 +17,7 @@ returns-then-e-input c =
     let l = c.loop-i in
     let e = c.line_end-e.ensures in
     let h = c.hold-n in
-    λ s. held_part _ s _ _ _ l.held l.i _ _ l.line l.have (l.invariant.0 s) e.0 e.1 l.invariant.1 (omega (arith, c.if-out-at-lt600.false, l.invariant.3)) h.result h.new.0 c.if-e-input.true h.ensures.0
+    λ s. held_part _ s _ _ _ l.held l.i _ _ l.line l.have (l.invariant.0 s) e.0 e.1 l.invariant.1 (omega (arith, c.if-out-at-lt600.false, l.invariant.3)) h.result h.new.held c.if-e-input.true h.ensures.0
 
 pub loop-i-preserved : goal.loop-i-preserved
 loop-i-preserved c =
@@ -26,7 +26,7 @@ loop-i-preserved c =
     let w = c.rewrite_line-next in
     let input = c.args.input.now in
     let less : c.line_end-e.result < length input = omega (arith, e.2, c.if-e-input.false) in
-    (λ s. turned _ s _ _ _ l.held l.i _ _ l.line l.have (l.invariant.0 s) e.0 e.1 l.invariant.1 (omega (arith, c.if-out-at-lt600.false, l.invariant.3, l.invariant.5)) _ _ _ w.new.0 less c.next_number-line.ensures w.ensures, search rules, search rules, search rules, line_starts input _ _ e.0 e.1 less, search rules)
+    (λ s. turned _ s _ _ _ l.held l.i _ _ l.line l.have (l.invariant.0 s) e.0 e.1 l.invariant.1 (omega (arith, c.if-out-at-lt600.false, l.invariant.3, l.invariant.5)) _ _ _ w.new.held less c.next_number-line.ensures w.ensures, search rules, search rules, search rules, line_starts input _ _ e.0 e.1 less, search rules)
 
 pub returns : goal.returns
 returns c = λ s. fed_whole _ _ _ _ _ _ _ (c.loop-i.invariant.0 s) (omega (arith, c.loop-i-test.false))

@@ -5,7 +5,8 @@ use Rattle.rewriting.proofs.Turned.{Came, turned, held_part}
 use Rattle.rewriting.proofs.feed_lines.Given as goal
 
 abbrev pub invariant-loop-i : goal.invariant-loop-i
-invariant-loop-i l =     Came (record { l.line = l.initial.line; l.have = l.initial.have }) l.initial.held l.input l.initial.out l.i l.at (record { l.line = l.line; l.have = l.have }) l.held l.out
+invariant-loop-i l =
+    Came (record { line = l.initial.line; have = l.initial.have }) l.initial.held l.input l.initial.out l.i l.at (record { line = l.line; have = l.have }) l.held l.out
     × (l.have ≤ 601) × (length l.held ≡ 601) × (length l.out ≡ length l.initial.out) × Starts l.input l.i × (l.at ≤ length l.initial.out)
 
 abbrev pub decreases-loop-i : goal.decreases-loop-i

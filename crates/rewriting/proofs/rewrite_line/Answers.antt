@@ -10,18 +10,18 @@ pub returns-then-number-ne0 : goal.returns-then-number-ne0
 returns-then-number-ne0 c =
     let r = c.read_request-request.ensures in
     let w = c.write-answer.ensures in
-    line_refused _ _ _ _ _ _ _ r.0 r.1 c.requires.2 w.0 w.1 (λ e. c.if-number-ne0.true (c.number.ensures ∙ e))
+    line_refused _ _ _ _ _ _ _ r.value r.buffer_after c.requires.2 w.value w.out_after (λ e. c.if-number-ne0.true (c.number.ensures ∙ e))
 
 pub put_byte-requires : goal.put_byte-requires
 put_byte-requires c =
     let r = c.read_request-request.ensures in
     let w = c.write-answer.ensures in
     let a = c.args in
-    let few = line_few _ _ a.out.now _ a.at _ _ r.0 r.1 c.requires.2 w.0 w.1 _ (sym c.number.ensures ∙ c.if-number-ne0.false) c.value.ensures in
-    omega (arith, few, c.out-1.given, c.requires.2)
+    let few = line_few _ _ a.out.now _ a.at _ _ r.value r.buffer_after c.requires.2 w.value w.out_after _ (sym c.number.ensures ∙ c.if-number-ne0.false) c.value.ensures in
+    omega (arith, few)
 
 pub returns : goal.returns
 returns c =
     let r = c.read_request-request.ensures in
     let w = c.write-answer.ensures in
-    line_written _ _ _ _ _ _ _ r.0 r.1 c.requires.2 w.0 w.1 _ _ _ (sym c.number.ensures ∙ c.if-number-ne0.false) c.value.ensures c.put_byte.ensures
+    line_written _ _ _ _ _ _ _ r.value r.buffer_after c.requires.2 w.value w.out_after _ _ _ (sym c.number.ensures ∙ c.if-number-ne0.false) c.value.ensures c.put_byte.ensures
