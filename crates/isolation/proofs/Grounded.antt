@@ -81,9 +81,9 @@ recall_token h g t x r z e =
     (λ _ f. absurd (let o : ◌≡◌ {A = ℕ} 0 1 = cc in omega arith)) (λ _ f. f)
     (sym (no! _ _ (ne_eqb t 0 z)) ∙ e)
 
-ground : (m : Machine) (i : Issue) (h : List Event) → Ready m → Recorded m.tables h → (id : ℕ) → Reaches m i id → Ground h i id
+basis : (m : Machine) (i : Issue) (h : List Event) → Ready m → Recorded m.tables h → (id : ℕ) → Reaches m i id → Ground h i id
 unfolding step target given
-ground m i h ready rec id reach = record { register = r; through = reach.through; way = go (ℕ_discrete (used_in h i.call.caller r) 0) }
+basis m i h ready rec id reach = record { register = r; through = reach.through; way = go (ℕ_discrete (used_in h i.call.caller r) 0) }
   where
     r : ℕ
     r = reach.register
@@ -114,7 +114,7 @@ ground m i h ready rec id reach = record { register = r; through = reach.through
       write = used.write;
       owner = owner_in h id;
       owns = owner_did h id (owner_in h id) refl d.owner;
-      ground = d.ground;
+      basis = d.basis;
     }
 
     go : Dec (used_in h i.call.caller r ≡ 0) → ((used_in h i.call.caller r ≡ 0) × Did h (Deed.enrolled g id))
@@ -125,4 +125,4 @@ ground m i h ready rec id reach = record { register = r; through = reach.through
 pub grounded : Grounded
 grounded F scratch calls next id ready reach =
     let m : Machine = record { tables = empty_tables F 1; scratch = scratch } in
-    ground (after_run m calls) next (recorded [] m calls) (ready_run calls m ready) (recorded_all F scratch calls ready) id reach
+    basis (after_run m calls) next (recorded [] m calls) (ready_run calls m ready) (recorded_all F scratch calls ready) id reach

@@ -87,7 +87,7 @@ module _ (h : List Event) (i : Issue) (x r : ℕ) (goes : Through i.call.operati
       permit : (w : Ground h i x) → PermittedBefore (by w).did.later (by w).did.earlier o g x (by w).right
       permit w =
           let one = sole (by w).owner (by w).owns in
-          ⊎_elim (λ q. absurd (stranger (sym one ∙ q))) (λ p. rw one at p) (by w).ground
+          ⊎_elim (λ q. absurd (stranger (sym one ∙ q))) (λ p. rw one at p) (by w).basis
 
       -- the PERMIT in the whole record, with no withdrawal from it on
       permit_since : (w : Ground h i x) → Since (Withdraws o x) h (permitted o x g (permit w).right)

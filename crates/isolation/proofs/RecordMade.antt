@@ -59,7 +59,7 @@ module _ (s : State) (m : Memory) (ok : Sound s) (rem : Remembers s m) where
     tokens = λ h t i z f.
         rem.tokens h t i z f
         ∙ gives_same s.spaces _ (entry_at s.entries h (entry_number t)) _ (λ u r v. stands s.spaces j x ok.spaces.len done.slot free u
-        (ok.entries.ground h (entry_number t) u r i (formed t z f).entry v).live);
+        (ok.entries.basis h (entry_number t) u r i (formed t z f).entry v).live);
     modes = rem.modes;
     loads = rem.loads;
   })
@@ -78,7 +78,7 @@ module _ (s : State) (m : Memory) (ok : Sound s) (rem : Remembers s m) where
 
       -- nobody is permitted anything of a free slot
       none : (h : ℕ) → IsGuest h → grant_at s.permits j h ≡ Nothing
-      none h i = nothing_allowed _ (not_so _ (λ a. omega (arith, free, (ok.permits.ground j h done.slot i a).live)))
+      none h i = nothing_allowed _ (not_so _ (λ a. omega (arith, free, (ok.permits.basis j h done.slot i a).live)))
 
   -- ENROL: no space had that owner
   pub enrol_told : (g : ℕ) (x : Settings) (d : Decision) → (guest_at s.guests g).enrolled ≡ false

@@ -232,7 +232,7 @@ pub record TokenDid (h : List Event) (o g t x : ℕ) (r : Right) : Type 0 where
   pub owner : o ≢ 0
   pub did : Did h (added g x r t)
   pub last : Never (GivesUp g t) did.later
-  pub ground : (o ≡ g) ⊎ PermittedBefore did.later did.earlier o g x r
+  pub basis : (o ≡ g) ⊎ PermittedBefore did.later did.earlier o g x r
 
 pub token_did : (h : List Event) → Proper h → (g t x : ℕ) (r : Right) → token_in h g t ≡ space x r → TokenDid h (owner_in h x) g t x r
 unfolding token_in did_now did_more
@@ -245,7 +245,7 @@ token_did (e ∷ h) p g t x r a =
     now q =
         let f : (owner_in h x ≢ 0) × ((owner_in h x ≡ g) ⊎ (allows (grant_in h x g) r ≡ true)) = rw q at p.0 in
         rw (owner_kept h e x p.0 f.0)
-        (record { owner = f.0; did = did_now e h _ q; last = tt; ground = ⊎_elim (λ o. inl o) (λ b. inr (permit (grant_did h p.1 x g r b))) f.1 })
+        (record { owner = f.0; did = did_now e h _ q; last = tt; basis = ⊎_elim (λ o. inl o) (λ b. inr (permit (grant_did h p.1 x g r b))) f.1 })
       where
         permit : PermitDid h (owner_in h x) x g r → PermittedBefore [] h (owner_in h x) g x r
         permit b = record { right = b.right; did = b.did; enough = b.enough; since = b.since; since_add = tt }
@@ -253,11 +253,11 @@ token_did (e ∷ h) p g t x r a =
     before : (GivesUp g t (deed e) → ⊥) → Dec (owner_in h x ≡ g) → TokenDid h (owner_in h x) g t x r → TokenDid (e ∷ h) (owner_in (e ∷ h) x) g t x r
     before held own f =
         rw (owner_kept h e x p.0 f.owner)
-        (record { owner = f.owner; did = did_more e h _ f.did; last = (held, f.last); ground = ground own f.ground })
+        (record { owner = f.owner; did = did_more e h _ f.did; last = (held, f.last); basis = basis own f.basis })
       where
-        ground : Dec (owner_in h x ≡ g) → (owner_in h x ≡ g) ⊎ PermittedBefore f.did.later f.did.earlier (owner_in h x) g x r
+        basis : Dec (owner_in h x ≡ g) → (owner_in h x ≡ g) ⊎ PermittedBefore f.did.later f.did.earlier (owner_in h x) g x r
             → (owner_in h x ≡ g) ⊎ PermittedBefore (e ∷ f.did.later) f.did.earlier (owner_in h x) g x r
-        ground (yes o) b = inl o
-        ground (no o) (inl b) = inl b
-        ground (no o) (inr b) =
+        basis (yes o) b = inl o
+        basis (no o) (inl b) = inl b
+        basis (no o) (inr b) =
             inr (record { right = b.right; did = b.did; enough = b.enough; since = b.since; since_add = (token_spared (deed e) (owner_in h) g t (token_in h g t) x r a o, b.since_add) })

@@ -100,7 +100,7 @@ module _ (s : State) (m : Memory) (ok : Sound s) (rem : Remembers s m) where
         let e = (formed t z f).entry in
         rw (withdrawn_revoked s gone closed g (entry_number t) i e, rem.tokens g t i z f)
         (gives_cut s.spaces _ lost (loses s.spaces gone closed g) (entry_at s.entries g (entry_number t)) (upper_half t)
-        (λ u r v. same u (ok.entries.ground g (entry_number t) u r i e v).live)
+        (λ u r v. same u (ok.entries.basis g (entry_number t) u r i e v).live)
         (λ u k. withdrawn_kept s gone closed u (kept_space s.spaces gone closed g u k)))
 
   -- DESTROY: every entry for the space is lost

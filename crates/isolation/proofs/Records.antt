@@ -66,15 +66,15 @@ entry : (l h : List Event) (i : Issue) (r : Right) (o : ℕ) → Quiet l → Did
     → (o ≡ i.call.caller.guest) ⊎ PermittedBefore [] h o i.call.caller.guest 3 r
     → ByEntry (l ++ (done i.call.caller.guest (Add 3 r) 2 ∷ h)) i.call.operation i.call.caller.guest 2 3
 unfolding telling
-entry l h i r o quiet made writes ground = record {
+entry l h i r o quiet made writes basis = record {
   right = r;
   did = record { later = l; event = done i.call.caller.guest (Add 3 r) 2; earlier = h; split = refl; is = refl };
   last = never_map _ _ (gives_up_code i.call.caller.guest 2) l quiet;
   write = writes;
   owner = o;
   owns = inr (did_in l _ _ (did_more _ h _ made));
-  ground = ⊎_elim (λ e. inl e) (λ (p : PermittedBefore [] h o i.call.caller.guest 3 r).
-      inr (record { right = p.right; did = p.did; enough = p.enough; since = p.since; since_add = never_map _ _ (withdraws_code o 3) l quiet })) ground;
+  basis = ⊎_elim (λ e. inl e) (λ (p : PermittedBefore [] h o i.call.caller.guest 3 r).
+      inr (record { right = p.right; did = p.did; enough = p.enough; since = p.since; since_add = never_map _ _ (withdraws_code o 3) l quiet })) basis;
 }
 
 made : Did founding (created 1 3)

@@ -63,7 +63,7 @@ pub record ByEntry (h : List Event) (operation : Operation) (guest token id : �
   pub write : is_store operation ≡ true → right ≡ Write
   pub owner : ℕ
   pub owns : Owns h owner id
-  pub ground : (owner ≡ guest) ⊎ PermittedBefore did.later did.earlier owner guest id right
+  pub basis : (owner ≡ guest) ⊎ PermittedBefore did.later did.earlier owner guest id right
 
 -- "For token 0 the space reached is that of the guest's ENROL."
 pub record Ground (h : List Event) (i : Issue) (id : ℕ) : Type 0 where

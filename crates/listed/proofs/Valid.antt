@@ -66,7 +66,7 @@ module _ (gs : List Guest) (ss : List Space) (ps : List Permit) (ts ws : List �
   -- an empty slot: no power, and no permit
   module _ (u : ℕ) (l : u < 32) (r : Right) (e : space_at ss u ≡ no_space) (z : owner_in ts u ≡ 0) where
     no_permit_lem : granted u r ≡ false
-    no_permit_lem = nothing (grant_at ps u (k + 1)) r (not_so _ (λ y. omega (arith, (((permits_decides gs ss ps).to permitted).ground u (k + 1) l (record { low = omega arith; high = omega arith }) y).live, ap (λ (x : Space). x.id) e)))
+    no_permit_lem = nothing (grant_at ps u (k + 1)) r (not_so _ (λ y. omega (arith, (((permits_decides gs ss ps).to permitted).basis u (k + 1) l (record { low = omega arith; high = omega arith }) y).live, ap (λ (x : Space). x.id) e)))
 
     power_none : get_or ws (u * 8 + k) 0 ≡ number_at ps (u * 8 + k)
     unfolding power_with

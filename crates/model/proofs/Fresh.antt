@@ -75,7 +75,7 @@ pub bare_permits : (gs : List Guest) (ss : List Space) (ps : List Permit) → le
 unfolding allows
 bare_permits gs ss ps len bare = record {
   len = len;
-  ground = λ u h _ _ e. true_false e (ap (λ (p : Permit). allows p.grant Read) (bare (permit_place u h)));
+  basis = λ u h _ _ e. true_false e (ap (λ (p : Permit). allows p.grant Read) (bare (permit_place u h)));
 }
 
 -- entries: none is valid
@@ -83,7 +83,7 @@ pub bare_entries : (gs : List Guest) (ss : List Space) (ps : List Permit) (es : 
 bare_entries gs ss ps es len bare = record {
   len = len;
   sequence = λ g n _ _. omega (arith, ap (λ (e : Entry). e.sequence) (bare (entry_place g n)));
-  ground = λ g n u r _ _ e. let z : ◌≡◌ {A = ℕ} 0 1 = cc (ap (λ (x : Entry). x.standing) (bare (entry_place g n))) in absurd (omega arith);
+  basis = λ g n u r _ _ e. let z : ◌≡◌ {A = ℕ} 0 1 = cc (ap (λ (x : Entry). x.standing) (bare (entry_place g n))) in absurd (omega arith);
   above = λ g n _ _ _. bare (entry_place g n);
 }
 

@@ -121,8 +121,8 @@ module _ (s : State) (ok : Sound s) (hs : List Guest) (x : Space) (k : Keeps s.g
   permits_made : PermitsOk hs (set s.spaces j x) s.permits
   permits_made = record {
     len = ok.permits.len;
-    ground = λ u h b i a.
-        let old = ok.permits.ground u h b i a in
+    basis = λ u h b i a.
+        let old = ok.permits.basis u h b i a in
         let same = same_space u old.live in
         record {
           live = rw same old.live;
@@ -137,8 +137,8 @@ module _ (s : State) (ok : Sound s) (hs : List Guest) (x : Space) (k : Keeps s.g
   entries_made = record {
     len = ok.entries.len;
     sequence = ok.entries.sequence;
-    ground = λ h n u r i b e.
-        let old = ok.entries.ground h n u r i b e in
+    basis = λ h n u r i b e.
+        let old = ok.entries.basis h n u r i b e in
         let same = same_space u old.live in
         record { slot = old.slot; live = rw same old.live; right = rw same old.right };
     above = λ h n i b l. ok.entries.above h n i b (omega (arith, no_shorter s.guests hs x.owner k h i));

@@ -49,4 +49,4 @@ reached_live s ok g t u r en e = ⊎_elim primary entry (reached s g t u r e)
     primary p = rw p.slot (named_found s.spaces g base_name (primary_lt s.spaces g (ok.guests.primary g en))).0
 
     entry : ThroughEntry s g t u r → Live s.spaces u
-    entry p = (ok.entries.ground g (entry_number t) u r (enrolled_guest s.guests g en) (formed t p.token p.formed).entry p.valid).live
+    entry p = (ok.entries.basis g (entry_number t) u r (enrolled_guest s.guests g en) (formed t p.token p.formed).entry p.valid).live

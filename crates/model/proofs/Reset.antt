@@ -69,7 +69,7 @@ sound_released s g ok = record {
         let x = entry_at s.entries h n in
         let b = ok.entries.sequence h n i e in
         rw (released_entry s.entries g h n i e) (choose_elim (λ (y : Entry). y.sequence < 256) (eqb h g) (released x) x (λ _. released_small x b) (λ _. b));
-    ground = λ h n u r i e v. ok.entries.ground h n u r i e (released_valid s.entries g h n u r i e v).1;
+    basis = λ h n u r i e v. ok.entries.basis h n u r i e (released_valid s.entries g h n u r i e v).1;
     above = λ h n i e a.
         released_entry s.entries g h n i e ∙ rw (ok.entries.above h n i e a, released_nothing) (choose_same (eqb h g) unused_entry);
   };
@@ -135,7 +135,7 @@ module _ (s : State) (u : ℕ) (ok : Sound s) (hidden : (h : ℕ) → IsGuest h 
       map_same _ s.entries unused_entry (λ k b. none_revoked _ (get_or s.entries k unused_entry) (λ v r e.
       let q : k ≡ entry_place (list_owner k) (k % 30 + 2) = omega arith in
       let i : IsGuest (list_owner k) = record { low = omega arith; high = omega (arith, ok.entries.len) } in
-      let c = ok.entries.ground (list_owner k) (k % 30 + 2) v r i (record { low = omega arith; high = omega arith }) (rw q at e) in
+      let c = ok.entries.basis (list_owner k) (k % 30 + 2) v r i (record { low = omega arith; high = omega arith }) (rw q at e) in
       either_none false _ refl (kept (list_owner k) v r i c.right)))
     where
       kept : (g v : ℕ) (r : Right) → IsGuest g → ((space_at s.spaces v).owner ≡ g) ⊎ (allows (grant_at s.permits v g) r ≡ true) → both (eqb u v) (not (eqb (space_at s.spaces v).owner g)) ≡ false

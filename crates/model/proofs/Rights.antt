@@ -42,11 +42,11 @@ raised_allows Writing r x e = refl
 -- one permit set, where there is ground for it
 module _ (gs : List Guest) (ss : List Space) (ps : List Permit) (u h : ℕ) (p : Permit) where
   pub set_permit : PermitsOk gs ss ps → u < 32 → IsGuest h → PermitGround gs ss u h → PermitsOk gs ss (set ps (permit_place u h) p)
-  set_permit ok b i ground = record {
+  set_permit ok b i basis = record {
     len = length-set ps (permit_place u h) p ∙ ok.len;
-    ground = λ v k c j. at_set (λ (x : Permit). allows x.grant Read ≡ true → PermitGround gs ss v k) ps (permit_place u h) p (permit_place v k) no_permit (omega (arith, ok.len))
-        (λ q _. let e = same_permit u h v k i j q in rw (e.0, e.1) ground)
-        (λ _. ok.ground v k c j);
+    basis = λ v k c j. at_set (λ (x : Permit). allows x.grant Read ≡ true → PermitGround gs ss v k) ps (permit_place u h) p (permit_place v k) no_permit (omega (arith, ok.len))
+        (λ q _. let e = same_permit u h v k i j q in rw (e.0, e.1) basis)
+        (λ _. ok.basis v k c j);
   }
 
 -- entries keep their ground where no right is lowered
@@ -56,8 +56,8 @@ pub entries_permitted : (gs : List Guest) (ss : List Space) (ps qs : List Permit
 entries_permitted gs ss ps qs es keeps ok = record {
   len = ok.len;
   sequence = ok.sequence;
-  ground = λ g n u r i j e.
-      let old = ok.ground g n u r i j e in
+  basis = λ g n u r i j e.
+      let old = ok.basis g n u r i j e in
       record { slot = old.slot; live = old.live; right = ⊎_elim (λ o. inl o) (λ a. inr (keeps u g r old.slot i a)) old.right };
   above = ok.above;
 }
@@ -67,14 +67,14 @@ module _ (gs : List Guest) (ss : List Space) (ps : List Permit) (es : List Entry
   pub set_entry : EntriesOk gs ss ps es → IsGuest g → IsEntry n → n ≤ (guest_at gs g).list + 1 → x.sequence < 256
       → ((u : ℕ) (r : Right) → x.standing ≡ Valid u r → EntryGround ss ps g u r)
       → EntriesOk gs ss ps (set es (entry_place g n) x)
-  set_entry ok i j listed small ground = record {
+  set_entry ok i j listed small basis = record {
     len = length-set es (entry_place g n) x ∙ ok.len;
     sequence = λ h m a b. at_set (λ (y : Entry). y.sequence < 256) es (entry_place g n) x (entry_place h m) unused_entry inside
         (λ _. small)
         (λ _. ok.sequence h m a b);
-    ground = λ h m u r a b. at_set (λ (y : Entry). y.standing ≡ Valid u r → EntryGround ss ps h u r) es (entry_place g n) x (entry_place h m) unused_entry inside
-        (λ q e. rw (same_entry g n h m i j a b q).0 (ground u r e))
-        (λ _. ok.ground h m u r a b);
+    basis = λ h m u r a b. at_set (λ (y : Entry). y.standing ≡ Valid u r → EntryGround ss ps h u r) es (entry_place g n) x (entry_place h m) unused_entry inside
+        (λ q e. rw (same_entry g n h m i j a b q).0 (basis u r e))
+        (λ _. ok.basis h m u r a b);
     above = λ h m a b. at_set (λ (y : Entry). (guest_at gs h).list + 1 < m → y ≡ unused_entry) es (entry_place g n) x (entry_place h m) unused_entry inside
         (λ q l. let e = same_entry g n h m i j a b q in absurd (omega (arith, e.1, ap (λ k. (guest_at gs k).list) e.0)))
         (λ _. ok.above h m a b);
@@ -87,13 +87,13 @@ module _ (gs : List Guest) (ss : List Space) (ps : List Permit) (es : List Entry
 pub sound_entry : (s : State) (g n : ℕ) (x : Entry) → Sound s → IsGuest g → IsEntry n → n ≤ (guest_at s.guests g).list + 1 → x.sequence < 256
     → ((u : ℕ) (r : Right) → x.standing ≡ Valid u r → EntryGround s.spaces s.permits g u r)
     → Sound (with_entries s (set s.entries (entry_place g n) x))
-sound_entry s g n x ok i j listed small ground = record {
+sound_entry s g n x ok i j listed small basis = record {
   head = ok.head;
   spaces = ok.spaces;
   guests = ok.guests;
   permits = ok.permits;
   cells = ok.cells;
-  entries = set_entry s.guests s.spaces s.permits s.entries g n x ok.entries i j listed small ground;
+  entries = set_entry s.guests s.spaces s.permits s.entries g n x ok.entries i j listed small basis;
 }
 
 -- PERMIT

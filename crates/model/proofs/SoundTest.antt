@@ -170,8 +170,8 @@ module _ (ss : List Space) (gs : List Guest) (cs : List Cpu) where
 pub permits_decides : (gs : List Guest) (ss : List Space) (ps : List Permit) → Decides (permits_test gs ss ps) (PermitsOk gs ss ps)
 unfolding permits_test
 permits_decides gs ss ps = d_map
-    (λ (len, ground). record { len = len; ground = λ u h b i. ground u b h i })
-    (λ ok. (ok.len, λ u b h i. ok.ground u h b i))
+    (λ (len, basis). record { len = len; basis = λ u h b i. basis u b h i })
+    (λ ok. (ok.len, λ u b h i. ok.basis u h b i))
     (d_both (d_eq (length ps) 256) (d_every slot_count (λ u. d_guests (λ k. permit_decides gs ss ps u (k + 1)))))
 
 module _ (gs : List Guest) (ss : List Space) (ps : List Permit) (es : List Entry) where
@@ -194,10 +194,10 @@ module _ (gs : List Guest) (ss : List Space) (ps : List Permit) (es : List Entry
       (λ (len, entries). record {
         len = len;
         sequence = λ g n i j. (entries g i n j).0;
-        ground = λ g n u r i j. (entries g i n j).1.0 u r;
+        basis = λ g n u r i j. (entries g i n j).1.0 u r;
         above = λ g n i j. (entries g i n j).1.1;
       })
-      (λ ok. (ok.len, λ g i n j. (ok.sequence g n i j, ((λ u r. ok.ground g n u r i j), ok.above g n i j))))
+      (λ ok. (ok.len, λ g i n j. (ok.sequence g n i j, ((λ u r. ok.basis g n u r i j), ok.above g n i j))))
       (d_both (d_eq (length es) 240)
       (d_guests {P = λ g. (n : ℕ) → IsEntry n → EntryFacts g n} (λ k. d_numbers (λ i. entry_decides (k + 1) (i + 2)))))
 

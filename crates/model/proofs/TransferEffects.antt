@@ -162,7 +162,7 @@ module _ (s : State) (m : ℕ) (c : Caller) (n : ℕ) where
         live = reached_live s fine g t p.slot p.right on p.reached;
         may = ⊎_elim
             (λ q. inl (rw q.slot (named_found s.spaces g base_name (primary_lt s.spaces g (fine.guests.primary g on))).1))
-            (λ q. (fine.entries.ground g (entry_number t) p.slot p.right (enrolled_guest s.guests g on) (formed t q.token q.formed).entry q.valid).right)
+            (λ q. (fine.entries.basis g (entry_number t) p.slot p.right (enrolled_guest s.guests g on) (formed t q.token q.formed).entry q.valid).right)
             through;
         inside = p.inside;
         key = (keys_decide s storing (access_key s c) p.slot a n).to p.key;

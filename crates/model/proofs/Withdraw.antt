@@ -210,10 +210,10 @@ module _ (s : State) (gone closed : ℕ → Bool) (ok : Sound s)
   sound_permits : PermitsOk s.guests (withdrawn gone closed s).spaces (withdrawn gone closed s).permits
   sound_permits = record {
     len = (withdrawn_lengths s gone closed).1 ∙ ok.permits.len;
-    ground = λ u h b i a.
+    basis = λ u h b i a.
         let p = withdrawn_permit s gone closed u h Read i a in
         let n = not_so (gone u) (λ e. true_false (within u e) p.0) in
-        let c = ok.permits.ground u h b i p.1 in
+        let c = ok.permits.basis u h b i p.1 in
         let same = withdrawn_kept s gone closed u n in
         record {
           live = rw same c.live;
@@ -228,9 +228,9 @@ module _ (s : State) (gone closed : ℕ → Bool) (ok : Sound s)
   sound_entries = record {
     len = (withdrawn_lengths s gone closed).2 ∙ ok.entries.len;
     sequence = λ g n i e. rw (withdrawn_sequence s gone closed g n i e) (ok.entries.sequence g n i e);
-    ground = λ g n u r i e v.
+    basis = λ g n u r i e v.
         let w = withdrawn_entry s gone closed g n u r i e v in
-        let c = ok.entries.ground g n u r i e w.0 in
+        let c = ok.entries.basis g n u r i e w.0 in
         let same = withdrawn_kept s gone closed u (kept_space s.spaces gone closed g u w.1) in
         record {
           slot = c.slot;

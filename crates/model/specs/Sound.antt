@@ -79,7 +79,7 @@ pub record PermitGround (gs : List Guest) (ss : List Space) (u h : ℕ) : Type 0
 
 pub record PermitsOk (gs : List Guest) (ss : List Space) (ps : List Permit) : Type 0 where
   pub len : length ps ≡ 256
-  pub ground : (u h : ℕ) → u < slot_count → IsGuest h → allows (grant_at ps u h) Read ≡ true → PermitGround gs ss u h
+  pub basis : (u h : ℕ) → u < slot_count → IsGuest h → allows (grant_at ps u h) Read ≡ true → PermitGround gs ss u h
 
 -- "A valid entry names a live space, owned by the guest or permitted to it with at least that right. Entries above L+1 are
 -- unused with sequence 0." A guest that is not enrolled has L = 0, so all its entries are above it: "everything of guests
@@ -92,7 +92,7 @@ pub record EntryGround (ss : List Space) (ps : List Permit) (g u : ℕ) (r : Rig
 pub record EntriesOk (gs : List Guest) (ss : List Space) (ps : List Permit) (es : List Entry) : Type 0 where
   pub len : length es ≡ 240
   pub sequence : (g n : ℕ) → IsGuest g → IsEntry n → (entry_at es g n).sequence < 256
-  pub ground : (g n u : ℕ) (r : Right) → IsGuest g → IsEntry n → (entry_at es g n).standing ≡ Valid u r → EntryGround ss ps g u r
+  pub basis : (g n u : ℕ) (r : Right) → IsGuest g → IsEntry n → (entry_at es g n).standing ≡ Valid u r → EntryGround ss ps g u r
   pub above : (g n : ℕ) → IsGuest g → IsEntry n → (guest_at gs g).list + 1 < n → entry_at es g n ≡ unused_entry
 
 -- the frame f is that of a page of the space in slot u
