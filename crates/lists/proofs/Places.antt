@@ -54,7 +54,7 @@ every_same p q n h = go 0 n (λ k a b. h k (omega arith))
     go i zero f = refl
     go i (suc m) f = rw (f i (omega arith) (omega arith), go (i + 1) m (λ k a b. f k (omega arith) (omega arith)))
 
--- lowestFrom: what it finds, that nothing lies below it, and one turn of a loop from i to e
+-- lowest_from: what it finds, that nothing lies below it, and one turn of a loop from i to e
 module _ (p : ℕ → Bool) where
   abbrev next : Bool → ℕ → ℕ → ℕ
   next b i r = elim b as (λ _. ℕ) [ true ↦ i | false ↦ r ]

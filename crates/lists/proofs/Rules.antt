@@ -1,5 +1,5 @@
 -- For search in the proofs of code: a chain of tests is walked one test at a time, and a loop one turn at a time. Each rule
--- is a law of this library, stated so that its conclusion fits what a need asks. Assumes nothing.
+-- is a law of this library, stated so that its conclusion fits a goal. Assumes nothing.
 use Prim.Native.Nat.{ℕ, ◌+◌, ◌-◌, ◌≤◌, ◌<◌}
 use mathlib.Core.Bool.{Bool, true, false, not}
 use mathlib.Core.List.{List}
