@@ -1,7 +1,7 @@
 -- A call that has passed check 1: from what it was decided to be, or from what its own function gives, to the promise. Assumes
 -- nothing.
 use Prim.Native.Nat.{ℕ, ◌*◌, ◌<◌}
-use mathlib.Core.Bool.{Bool, true, false, not}
+use mathlib.Core.Bool.{Bool, true}
 use mathlib.Core.List.{List}
 use mathlib.Core.Path.{◌≡◌, refl, subst, sym, ap, ◌∙◌}
 use lib.ListN.{length}

@@ -9,7 +9,7 @@ use borrow.Author.Tests.{le-leb}
 use Rattle.lists.specs.Choice.{choose}
 use Rattle.lists.proofs.Choice.{yes!, choose_eq, true_false}
 use Rattle.model.specs.declared.Request.{Request}
-use Rattle.model.specs.Lines.{fields, name, at, values, make_by, read_all, read_line, stores, length_of, hex_bytes, data_of}
+use Rattle.model.specs.Lines.{fields, name, at, make_by, read_all, read_line, stores, length_of, hex_bytes, data_of}
 use Rattle.model.specs.Parts.{parts_of, form_of, canonical, data_in}
 use Rattle.model.specs.Rewritten.{Narrow, AllBytes, ReadsBack}
 use Rattle.model.specs.Written.{field_text, written, takes}

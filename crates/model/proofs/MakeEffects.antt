@@ -30,7 +30,7 @@ use Rattle.model.specs.Sound.{Live, IsGuest, Sound, HasFrame}
 use Rattle.model.specs.Step.{scratch_after}
 use Rattle.model.specs.Tables.{no_space, no_guest, space_at, guest_at, guest_place, with_next, with_spaces, with_guests, no_cell, cell_at}
 use Rattle.model.proofs.Clearing.{BytesGo, bytes_go}
-use Rattle.model.proofs.Effects.{by, Done, all, ok, guest}
+use Rattle.model.proofs.Effects.{by, Done, all, ok}
 use Rattle.model.proofs.Entries.{same_guest}
 use Rattle.model.proofs.Runs.{d_has, lowest_run, lowest_slot}
 use Rattle.model.proofs.Searches.{named_none}

@@ -4,7 +4,7 @@ use mathlib.Core.Bool.{Bool, true, false}
 use mathlib.Core.List.{List, [], ◌∷◌, ◌++◌, append_assoc}
 use mathlib.Core.Path.{◌≡◌, refl, sym, ap, ◌∙◌}
 use denote.Enum.Declared.{tag_of}
-use types.Run.{OneOf, miss}
+use types.Run.{OneOf}
 use borrow.Author.Tests.{eq-eqb, ne_eqb}
 use Rattle.lists.specs.Choice.{both}
 use Rattle.lists.proofs.Choice.{true_false, yes!, no! }
@@ -17,11 +17,10 @@ use Rattle.model.specs.declared.Request.TheVariants as request
 use Rattle.model.specs.declared.Right.{Right}
 use Rattle.model.specs.declared.Settings.{Settings}
 use Rattle.model.specs.Answers.{number, value, names_argument}
-use Rattle.model.specs.Classes.{no_value, its_value}
+use Rattle.model.specs.Classes.{its_value}
 use Rattle.model.specs.Session.{LineOutcome, decimal, hex_text, dash, shown, done_text, request_text, refusal_text, value_text, line_text}
 use Rattle.model.proofs.Classes.{shows_at}
 use Rattle.model.specs.contracts.Operation as operation-cases
-use Rattle.model.specs.contracts.Request as request-cases
 use Rattle.digits.specs.Wrote.{Wrote}
 use Rattle.digits.proofs.Writing.{wrote_more}
 

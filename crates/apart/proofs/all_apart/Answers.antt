@@ -1,5 +1,4 @@
 use Rattle.apart.proofs.Rules.{sure_is}
-use borrow.Author.Rules.{rules}
 use Rattle.apart.proofs.all_apart.Goals as goal
 
 pub returns-then-surely_apart : goal.returns-then-surely_apart

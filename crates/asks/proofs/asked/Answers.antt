@@ -1,5 +1,4 @@
 use Rattle.asks.specs.Asks.{asks_for}
-use borrow.Author.Rules.{rules}
 use Rattle.asks.proofs.asked.Goals as goal
 
 pub returns-in-Frames : goal.returns-in-Frames

@@ -1,6 +1,5 @@
 use Rattle.asks.specs.Asks.{asks_by}
 use Rattle.asks.proofs.Told.{asks_as}
-use borrow.Author.Rules.{rules}
 use Rattle.asks.proofs.asked_by.Goals as goal
 
 pub returns-in-Enrol : goal.returns-in-Enrol

@@ -1,7 +1,6 @@
 use Rattle.model.specs.Calls.{enrols}
 use Rattle.edits.proofs.Kept.{decided_bad}
 use Rattle.blocks.proofs.Set.{block_key, block_mark, block_refused, block_outside, block_done}
-use borrow.Author.Rules.{rules}
 use Rattle.blocks.proofs.decide_block.Goals as goal
 
 pub returns-then-at-ge8 : goal.returns-then-at-ge8

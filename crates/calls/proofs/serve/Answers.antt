@@ -1,7 +1,6 @@
 use Rattle.lists.proofs.Rules.{tests}
 use Rattle.calls.proofs.Ready.{ready_sound, refuses}
-use Rattle.calls.proofs.Serving.{run_inside, Known, knows, made_fits, made_serves, closes_low, closes_serves, still_room, whole_serves, reset_serves}
-use borrow.Author.Rules.{rules}
+use Rattle.calls.proofs.Serving.{run_inside, knows, made_fits, made_serves, closes_low, closes_serves, still_room, whole_serves, reset_serves}
 use Rattle.calls.proofs.serve.Goals as goal
 
 pub returns-then-not-is_ready : goal.returns-then-not-is_ready

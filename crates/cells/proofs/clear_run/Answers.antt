@@ -1,6 +1,4 @@
-use Prim.Native.Nat.{◌-◌}
-use borrow.Author.Rules.{rules}
-use Rattle.cells.proofs.Clearing.{Clearing, clear_start, clear_go, clear_end}
+use Rattle.cells.proofs.Clearing.{clear_start, clear_go, clear_end}
 use Rattle.cells.proofs.clear_run.Goals as goal
 
 pub loop-f-init : goal.loop-f-init

@@ -1,6 +1,4 @@
-use Prim.Native.Nat.{◌-◌}
-use borrow.Author.Rules.{rules}
-use Rattle.cells.proofs.Clearing.{Clearing, clear_start, clear_go, clear_end}
+use Rattle.cells.proofs.Clearing.{Clearing}
 use Rattle.cells.proofs.clear_run.Given as goal
 
 abbrev pub invariant-loop-f : goal.invariant-loop-f

@@ -1,8 +1,3 @@
-use Prim.Native.Nat.{◌-◌, ◌≤◌}
-use mathlib.Core.Path.{◌≡◌}
-use lib.ListN.{get_or}
-use borrow.Author.Rules.{rules}
-use Rattle.cells.specs.Weights.{most_of}
 use Rattle.cells.proofs.Weights.{mosts}
 use Rattle.cells.proofs.heaviest.Goals as goal
 

@@ -1,9 +1,7 @@
-use Prim.Native.Nat.{◌-◌, ◌≤◌}
+use Prim.Native.Nat.{◌≤◌}
 use mathlib.Core.Path.{◌≡◌}
 use lib.ListN.{get_or}
-use borrow.Author.Rules.{rules}
 use Rattle.cells.specs.Weights.{most_of}
-use Rattle.cells.proofs.Weights.{mosts}
 use Rattle.cells.proofs.heaviest.Given as goal
 
 abbrev pub invariant-loop-f : goal.invariant-loop-f

@@ -1,4 +1,3 @@
-use borrow.Author.Rules.{rules}
 use Rattle.cells.specs.Weights.{weight_of}
 use Rattle.cells.proofs.weight.Goals as goal
 

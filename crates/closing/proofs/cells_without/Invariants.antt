@@ -1,8 +1,5 @@
-use Prim.Native.Nat.{◌+◌, ◌-◌, ◌≤◌}
-use native.Mathlib.Omega.{arith}
-use borrow.Author.Rules.{rules}
+use Prim.Native.Nat.{◌+◌, ◌≤◌}
 use Rattle.model.specs.Tables.{no_cell}
-use Rattle.closing.proofs.Closed.{turns, cells_done}
 use Rattle.closing.proofs.Ranges.{Ranged}
 use Rattle.closing.proofs.cells_without.Given as goal
 

@@ -1,9 +1,6 @@
-use Prim.Native.Nat.{◌+◌, ◌*◌, ◌-◌, ◌≤◌}
-use native.Mathlib.Omega.{arith}
+use Prim.Native.Nat.{◌+◌, ◌*◌, ◌≤◌}
 use lib.Dec.{eqb}
-use borrow.Author.Rules.{rules}
 use Rattle.model.specs.Changes.{revoked}
-use Rattle.closing.proofs.Closed.{turns, entries_done}
 use Rattle.closing.proofs.Ranges.{Ranged}
 use Rattle.closing.proofs.entries_without.Given as goal
 

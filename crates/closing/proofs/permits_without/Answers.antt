@@ -1,9 +1,5 @@
-use Prim.Native.Nat.{◌+◌, ◌*◌, ◌-◌, ◌≤◌}
 use native.Mathlib.Omega.{arith}
-use borrow.Author.Rules.{rules}
-use Rattle.model.specs.Tables.{no_permit}
 use Rattle.closing.proofs.Closed.{turns, permits_done}
-use Rattle.closing.proofs.Ranges.{Ranged}
 use Rattle.closing.proofs.permits_without.Goals as goal
 
 pub loop-k-init : goal.loop-k-init

@@ -1,7 +1,6 @@
 use Rattle.model.specs.Calls.{enrols}
 use Rattle.edits.proofs.Kept.{decided_bad}
 use Rattle.cpus.proofs.Done.{key_limit, key_done}
-use borrow.Author.Rules.{rules}
 use Rattle.cpus.proofs.decide_key.Goals as goal
 
 pub returns-then-at-ge8 : goal.returns-then-at-ge8

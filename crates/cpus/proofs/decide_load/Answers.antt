@@ -1,7 +1,6 @@
 use Rattle.model.specs.Calls.{enrols}
 use Rattle.edits.proofs.Kept.{decided_bad}
 use Rattle.cpus.proofs.Done.{load_limit, load_done}
-use borrow.Author.Rules.{rules}
 use Rattle.cpus.proofs.decide_load.Goals as goal
 
 pub returns-then-at-ge8 : goal.returns-then-at-ge8

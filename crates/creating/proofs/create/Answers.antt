@@ -1,5 +1,4 @@
 use Rattle.making.proofs.Done.{refuses, slot_low, next_small, run_inside, makes, frames_small}
-use borrow.Author.Rules.{rules}
 use Rattle.creating.proofs.create.Goals as goal
 
 pub decide-requires : goal.decide-requires

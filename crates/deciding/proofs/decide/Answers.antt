@@ -1,5 +1,4 @@
 use Rattle.deciding.proofs.Decided.{permit_made, isolate_refused, isolate_closes, query_made, add_made, remove_made, load_made, mode_made, fetch_moved, store_moved, key_made, block_made, not_yet}
-use borrow.Author.Rules.{rules}
 use Rattle.deciding.proofs.decide.Goals as goal
 
 pub returns-in-Permit : goal.returns-in-Permit

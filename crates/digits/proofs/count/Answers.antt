@@ -1,6 +1,5 @@
 use native.Mathlib.Omega.{arith}
-use borrow.Author.Rules.{rules}
-use Rattle.digits.proofs.Decimals.{count_some, count_few, Counted, count_start, count_turn, count_end}
+use Rattle.digits.proofs.Decimals.{count_some, count_few, count_start, count_turn, count_end}
 use Rattle.digits.proofs.count.Goals as goal
 
 pub loop-rest-init : goal.loop-rest-init

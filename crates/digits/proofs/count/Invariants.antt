@@ -1,6 +1,4 @@
-use native.Mathlib.Omega.{arith}
-use borrow.Author.Rules.{rules}
-use Rattle.digits.proofs.Decimals.{count_some, count_few, Counted, count_start, count_turn, count_end}
+use Rattle.digits.proofs.Decimals.{Counted}
 use Rattle.digits.proofs.count.Given as goal
 
 abbrev pub invariant-loop-rest : goal.invariant-loop-rest

@@ -1,4 +1,3 @@
-use borrow.Author.Rules.{rules}
 use Rattle.lists.proofs.Rules.{tests}
 use Rattle.model.specs.Session.{hex_letter}
 use Rattle.digits.proofs.letter.Goals as goal

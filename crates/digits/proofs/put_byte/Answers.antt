@@ -1,4 +1,3 @@
-use borrow.Author.Rules.{rules}
 use Rattle.digits.proofs.Writing.{wrote_one}
 use Rattle.digits.proofs.put_byte.Goals as goal
 

@@ -1,5 +1,5 @@
 use borrow.Author.Rules.{rules}
-use Rattle.digits.proofs.Decimals.{Digits, digits_start, digits_down, digits_turn, digits_end}
+use Rattle.digits.proofs.Decimals.{digits_start, digits_down, digits_turn, digits_end}
 use Rattle.digits.proofs.put_decimal.Goals as goal
 
 pub loop-rest-init : goal.loop-rest-init

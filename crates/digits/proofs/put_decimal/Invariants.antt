@@ -1,5 +1,4 @@
-use borrow.Author.Rules.{rules}
-use Rattle.digits.proofs.Decimals.{Digits, digits_start, digits_down, digits_turn, digits_end}
+use Rattle.digits.proofs.Decimals.{Digits}
 use Rattle.digits.proofs.put_decimal.Given as goal
 
 abbrev pub invariant-loop-rest : goal.invariant-loop-rest

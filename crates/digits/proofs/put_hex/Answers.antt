@@ -1,7 +1,5 @@
-use Prim.Native.Nat.{◌-◌}
-use lib.ListN.{length}
 use borrow.Author.Rules.{rules}
-use Rattle.digits.proofs.Hexes.{Paired, hex_start, hex_turn, hex_end}
+use Rattle.digits.proofs.Hexes.{hex_start, hex_turn, hex_end}
 use Rattle.digits.proofs.put_hex.Goals as goal
 
 pub loop-i-init : goal.loop-i-init

@@ -1,7 +1,6 @@
 use Prim.Native.Nat.{◌-◌}
 use lib.ListN.{length}
-use borrow.Author.Rules.{rules}
-use Rattle.digits.proofs.Hexes.{Paired, hex_start, hex_turn, hex_end}
+use Rattle.digits.proofs.Hexes.{Paired}
 use Rattle.digits.proofs.put_hex.Given as goal
 
 abbrev pub invariant-loop-i : goal.invariant-loop-i

@@ -1,4 +1,3 @@
-use borrow.Author.Rules.{rules}
 use Rattle.digits.proofs.Hexes.{pair_done}
 use Rattle.digits.proofs.put_pair.Goals as goal
 

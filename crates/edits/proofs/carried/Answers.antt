@@ -1,6 +1,5 @@
 use Rattle.edits.specs.Edits.{change_of}
 use Rattle.edits.proofs.Kept.{insides, carried_by}
-use borrow.Author.Rules.{rules}
 use Rattle.edits.proofs.carried.Goals as goal
 
 pub bounds-s-place-in-Entry : goal.bounds-s-place-in-Entry

@@ -1,6 +1,5 @@
 use Rattle.making.proofs.Done.{refuses, slot_low, next_small, run_inside, frames_small}
 use Rattle.enrolling.proofs.Enrolled.{enrol_decides, number_low, place_low, allowance_fits, list_fits, enrol_done}
-use borrow.Author.Rules.{rules}
 use Rattle.enrolling.proofs.enrol.Goals as goal
 
 pub decide-requires : goal.decide-requires

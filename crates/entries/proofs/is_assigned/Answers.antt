@@ -1,4 +1,3 @@
-use Rattle.std.proofs.Common.{rules}
 use Rattle.lists.proofs.Rules.{tests, calls}
 use Rattle.entries.proofs.is_assigned.Goals as goal
 

@@ -1,4 +1,3 @@
-use Rattle.std.proofs.Common.{rules}
 use Rattle.model.specs.Searches.{is_unused}
 use Rattle.entries.proofs.is_unused.Goals as goal
 

@@ -1,4 +1,3 @@
-use Rattle.std.proofs.Common.{rules}
 use Rattle.entries.proofs.Released.{stays, goes}
 use Rattle.entries.proofs.release.Goals as goal
 

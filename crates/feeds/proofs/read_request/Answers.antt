@@ -1,5 +1,4 @@
 use Rattle.feeds.proofs.Reading.{whole_read, whole_data, held_read, held_data}
-use borrow.Author.Rules.{rules}
 use Rattle.feeds.proofs.read_request.Goals as goal
 
 pub returns-then-have-eq0 : goal.returns-then-have-eq0

@@ -1,5 +1,4 @@
-use Rattle.std.proofs.Common.{◌≡◌, ◌-◌, ◌≤◌, length, drop, arith, rules}
-use Rattle.model.specs.Lines.{hex_digits}
+use Rattle.std.proofs.Common.{arith}
 use Rattle.fields.proofs.HexDigits.{hexes}
 use Rattle.fields.proofs.all_hex.Goals as goal
 

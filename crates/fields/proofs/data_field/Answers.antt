@@ -1,5 +1,4 @@
 use Rattle.fields.proofs.Spelling.{hex_odd, hex_long, hex_other, hex_pairs}
-use Rattle.std.proofs.Common.{rules}
 use Rattle.fields.proofs.data_field.Goals as goal
 
 pub returns-then-f-eq1 : goal.returns-then-f-eq1

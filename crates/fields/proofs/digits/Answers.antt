@@ -1,8 +1,5 @@
-use Rattle.std.proofs.Common.{◌≡◌, ◌-◌, true, length, rules}
-use Rattle.model.specs.Lines.{plain}
-use Rattle.fields.specs.Fields.{field_from}
 use Rattle.fields.proofs.FieldEnds.{at_tab, past_end}
-use Rattle.fields.proofs.Readings.{Decimal, decimal_start, decimal_plain, decimal_turn, decimal_fits, decimal_other, decimal_large, decimal_done}
+use Rattle.fields.proofs.Readings.{decimal_start, decimal_plain, decimal_turn, decimal_fits, decimal_other, decimal_large, decimal_done}
 use Rattle.fields.proofs.digits.Goals as goal
 
 pub loop-i-init : goal.loop-i-init

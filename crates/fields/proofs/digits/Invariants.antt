@@ -1,8 +1,7 @@
-use Rattle.std.proofs.Common.{◌≡◌, ◌-◌, true, length, rules}
+use Rattle.std.proofs.Common.{◌≡◌, ◌-◌, true, length}
 use Rattle.model.specs.Lines.{plain}
 use Rattle.fields.specs.Fields.{field_from}
-use Rattle.fields.proofs.FieldEnds.{at_tab, past_end}
-use Rattle.fields.proofs.Readings.{Decimal, decimal_start, decimal_plain, decimal_turn, decimal_fits, decimal_other, decimal_large, decimal_done}
+use Rattle.fields.proofs.Readings.{Decimal}
 use Rattle.fields.proofs.digits.Given as goal
 
 abbrev pub invariant-loop-i : goal.invariant-loop-i

@@ -1,5 +1,4 @@
 use Rattle.fields.proofs.FieldEnds.{ends_inside, ends_past}
-use Rattle.std.proofs.Common.{rules}
 use Rattle.fields.proofs.ends.Goals as goal
 
 pub returns-then-i-line : goal.returns-then-i-line

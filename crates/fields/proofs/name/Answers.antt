@@ -1,7 +1,7 @@
-use Rattle.std.proofs.Common.{◌-◌, ◌≤◌, length, arith, rules}
+use Rattle.std.proofs.Common.{arith, rules}
 use Rattle.fields.proofs.FieldEnds.{at_tab, past_end}
 use Rattle.fields.proofs.Spelling.{name_none}
-use Rattle.fields.proofs.Readings.{Bytes, Letters, letters_start, letters_turn, letters_scaled, letters_fits, letters_blank, letters_long, letters_small, letters_done}
+use Rattle.fields.proofs.Readings.{letters_start, letters_turn, letters_scaled, letters_fits, letters_blank, letters_long, letters_small, letters_done}
 use Rattle.fields.proofs.name.Goals as goal
 
 pub returns-then-line-start : goal.returns-then-line-start

@@ -1,7 +1,5 @@
-use Rattle.std.proofs.Common.{◌-◌, ◌≤◌, length, arith, rules}
-use Rattle.fields.proofs.FieldEnds.{at_tab, past_end}
-use Rattle.fields.proofs.Spelling.{name_none}
-use Rattle.fields.proofs.Readings.{Bytes, Letters, letters_start, letters_turn, letters_scaled, letters_fits, letters_blank, letters_long, letters_small, letters_done}
+use Rattle.std.proofs.Common.{◌-◌, ◌≤◌, length}
+use Rattle.fields.proofs.Readings.{Bytes, Letters}
 use Rattle.fields.proofs.name.Given as goal
 
 abbrev pub invariant-loop-i : goal.invariant-loop-i

@@ -1,6 +1,5 @@
 use Rattle.fields.proofs.Spelling.{is_field, bad_field}
 use Rattle.lists.proofs.Rules.{zero_leb, pos_leb}
-use Rattle.std.proofs.Common.{rules}
 use Rattle.fields.proofs.named.Goals as goal
 
 pub returns-then-n-eq0 : goal.returns-then-n-eq0

@@ -1,7 +1,6 @@
 use Rattle.fields.proofs.FieldEnds.{past_end}
 use Rattle.fields.proofs.Spelling.{number_none}
 use Rattle.fields.proofs.Bytewise.{number_low, number_high, only_zero, zero_first}
-use Rattle.std.proofs.Common.{rules}
 use Rattle.fields.proofs.number.Goals as goal
 
 pub returns-then-line-start : goal.returns-then-line-start

@@ -1,5 +1,4 @@
 use Rattle.fields.proofs.Spelling.{other_decimal, other_letter, other_none}
-use Rattle.std.proofs.Common.{rules}
 use Rattle.fields.proofs.one_if_other.Goals as goal
 
 pub returns-then-wrapping_sub_u8-lt10 : goal.returns-then-wrapping_sub_u8-lt10

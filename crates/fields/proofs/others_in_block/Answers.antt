@@ -1,6 +1,4 @@
-use Rattle.std.proofs.Common.{◌+◌, ◌-◌, not, get_or, rules}
-use Rattle.model.specs.Lines.{hex_digit}
-use Rattle.lists.proofs.Counting.{Counting, countings}
+use Rattle.lists.proofs.Counting.{countings}
 use Rattle.fields.proofs.others_in_block.Goals as goal
 
 pub loop-k-init : goal.loop-k-init

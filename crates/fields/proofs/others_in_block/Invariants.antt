@@ -1,6 +1,6 @@
-use Rattle.std.proofs.Common.{◌+◌, ◌-◌, not, get_or, rules}
+use Rattle.std.proofs.Common.{◌+◌, not, get_or}
 use Rattle.model.specs.Lines.{hex_digit}
-use Rattle.lists.proofs.Counting.{Counting, countings}
+use Rattle.lists.proofs.Counting.{Counting}
 use Rattle.fields.proofs.others_in_block.Given as goal
 
 abbrev pub invariant-loop-k : goal.invariant-loop-k

@@ -1,5 +1,4 @@
-use Rattle.fields.proofs.Readings.{Padding, padding_start, padding_turn, padding_scaled, padding_fits, padding_end}
-use Rattle.std.proofs.Common.{◌-◌, rules}
+use Rattle.fields.proofs.Readings.{padding_start, padding_turn, padding_scaled, padding_fits, padding_end}
 use Rattle.fields.proofs.padded.Goals as goal
 
 pub loop-k-init : goal.loop-k-init

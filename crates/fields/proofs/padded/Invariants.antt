@@ -1,5 +1,5 @@
-use Rattle.fields.proofs.Readings.{Padding, padding_start, padding_turn, padding_scaled, padding_fits, padding_end}
-use Rattle.std.proofs.Common.{◌-◌, rules}
+use Rattle.fields.proofs.Readings.{Padding}
+use Rattle.std.proofs.Common.{◌-◌}
 use Rattle.fields.proofs.padded.Given as goal
 
 abbrev pub invariant-loop-k : goal.invariant-loop-k

@@ -1,5 +1,4 @@
-use Rattle.std.proofs.Common.{◌≡◌, ◌-◌, ◌≤◌, length, drop, refl, arith, rules}
-use Rattle.model.specs.Lines.{hex_digits}
+use Rattle.std.proofs.Common.{refl, arith}
 use Rattle.fields.proofs.HexDigits.{hex_skip}
 use Rattle.fields.proofs.pass_blocks.Goals as goal
 

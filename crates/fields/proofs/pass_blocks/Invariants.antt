@@ -1,6 +1,5 @@
-use Rattle.std.proofs.Common.{◌≡◌, ◌-◌, ◌≤◌, length, drop, refl, arith, rules}
+use Rattle.std.proofs.Common.{◌≡◌, ◌-◌, ◌≤◌, length, drop}
 use Rattle.model.specs.Lines.{hex_digits}
-use Rattle.fields.proofs.HexDigits.{hex_skip}
 use Rattle.fields.proofs.pass_blocks.Given as goal
 
 abbrev pub invariant-loop-i : goal.invariant-loop-i

@@ -1,5 +1,4 @@
 use Rattle.fields.proofs.KindNumbers.{field_number, field_name, field_right}
-use Rattle.std.proofs.Common.{rules}
 use Rattle.fields.proofs.read_field.Goals as goal
 
 pub returns-then-kind-le1 : goal.returns-then-kind-le1

@@ -1,7 +1,6 @@
 use Rattle.fields.proofs.FieldEnds.{past_end}
 use Rattle.fields.proofs.Spelling.{right_none}
 use Rattle.fields.proofs.Bytewise.{right_r, right_w, right_neither, right_more}
-use Rattle.std.proofs.Common.{rules}
 use Rattle.fields.proofs.right.Goals as goal
 
 pub returns-then-line-start : goal.returns-then-line-start

@@ -1,6 +1,6 @@
-use Rattle.std.proofs.Common.{◌-◌, ◌≤◌, length, arith, rules}
+use Rattle.std.proofs.Common.{arith, rules}
 use Rattle.fields.proofs.FieldEnds.{at_tab, past_end}
-use Rattle.fields.proofs.Readings.{Bytes, Word, word_start, word_turn, word_scaled, word_fits, word_over, word_whole}
+use Rattle.fields.proofs.Readings.{word_start, word_turn, word_scaled, word_fits, word_over, word_whole}
 use Rattle.fields.proofs.word.Goals as goal
 
 pub loop-i-init : goal.loop-i-init

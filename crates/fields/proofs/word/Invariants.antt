@@ -1,6 +1,5 @@
-use Rattle.std.proofs.Common.{◌-◌, ◌≤◌, length, arith, rules}
-use Rattle.fields.proofs.FieldEnds.{at_tab, past_end}
-use Rattle.fields.proofs.Readings.{Bytes, Word, word_start, word_turn, word_scaled, word_fits, word_over, word_whole}
+use Rattle.std.proofs.Common.{◌-◌, ◌≤◌, length}
+use Rattle.fields.proofs.Readings.{Bytes, Word}
 use Rattle.fields.proofs.word.Given as goal
 
 abbrev pub invariant-loop-i : goal.invariant-loop-i

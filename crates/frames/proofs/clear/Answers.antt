@@ -1,4 +1,3 @@
-use borrow.Author.Rules.{rules}
 use Rattle.frames.proofs.Clearing.{clear_fits, clear_done}
 use Rattle.frames.proofs.clear.Goals as goal
 

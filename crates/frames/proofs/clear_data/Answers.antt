@@ -1,7 +1,5 @@
-use Prim.Native.Nat.{◌-◌, ◌≤◌}
 use native.Mathlib.Omega.{arith}
-use borrow.Author.Rules.{rules}
-use Rattle.frames.proofs.Freeing.{ClearedBelow, clearing}
+use Rattle.frames.proofs.Freeing.{clearing}
 use Rattle.frames.proofs.clear_data.Goals as goal
 
 pub loop-u-init : goal.loop-u-init

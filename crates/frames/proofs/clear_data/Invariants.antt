@@ -1,7 +1,5 @@
-use Prim.Native.Nat.{◌-◌, ◌≤◌}
-use native.Mathlib.Omega.{arith}
-use borrow.Author.Rules.{rules}
-use Rattle.frames.proofs.Freeing.{ClearedBelow, clearing}
+use Prim.Native.Nat.{◌≤◌}
+use Rattle.frames.proofs.Freeing.{ClearedBelow}
 use Rattle.frames.proofs.clear_data.Given as goal
 
 -- Assumes nothing.

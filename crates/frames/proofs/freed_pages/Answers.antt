@@ -1,4 +1,3 @@
-use borrow.Author.Rules.{rules}
 use Rattle.lists.proofs.Rules.{calls}
 use Rattle.frames.proofs.freed_pages.Goals as goal
 

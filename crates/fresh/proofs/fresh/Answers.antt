@@ -1,4 +1,3 @@
-use borrow.Author.Rules.{rules}
 use Rattle.lists.proofs.Rules.{tests}
 use Rattle.fresh.proofs.Range.{fresh_in, fresh_out}
 use Rattle.fresh.proofs.fresh.Goals as goal

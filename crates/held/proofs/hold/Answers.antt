@@ -1,5 +1,4 @@
 use native.Mathlib.Omega.{arith}
-use borrow.Author.Rules.{rules}
 use Rattle.held.proofs.Held.{hold_part}
 use Rattle.held.proofs.hold.Goals as goal
 

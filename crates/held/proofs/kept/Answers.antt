@@ -1,5 +1,4 @@
 use native.Mathlib.Omega.{arith}
-use borrow.Author.Rules.{rules}
 use Rattle.held.proofs.Held.{held_least}
 use Rattle.held.proofs.kept.Goals as goal
 

@@ -1,8 +1,6 @@
 use Rattle.lists.proofs.Rules.{tests}
 use Rattle.model.specs.Keys.{allows_key}
 use borrow.Author.Rules.{rules}
-use Rattle.keys.proofs.allows.Reads as reads
-use Rattle.keys.proofs.allows.Lts as lts
 use Rattle.keys.proofs.allows.Goals as goal
 
 -- src/lib.rt:21:9

@@ -1,9 +1,6 @@
 use Rattle.lists.proofs.Rules.{tests, calls}
 use Rattle.keys.specs.Guards.{guard_allows}
 use borrow.Author.Rules.{rules}
-use Rattle.keys.proofs.permits.Reads as reads
-use Rattle.keys.proofs.permits.Lts as lts
-use Rattle.keys.proofs.allows.Reads as allows-reads
 use Rattle.keys.proofs.permits.Goals as goal
 
 -- src/lib.rt:38:9

@@ -1,5 +1,4 @@
 use mathlib.Core.Path.{refl}
-use borrow.Author.Rules.{rules}
 use Rattle.model.specs.Names.{name_bytes}
 use Rattle.letters.proofs.bytes_of.Goals as goal
 

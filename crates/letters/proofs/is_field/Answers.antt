@@ -1,8 +1,5 @@
-use Prim.Native.Nat.{◌-◌}
-use mathlib.Core.Path.{◌≡◌}
-use lib.ListN.{length}
 use borrow.Author.Rules.{rules}
-use Rattle.letters.proofs.Outside.{Passed, passed_start, passed_more, passed_out, passed_all, no_text}
+use Rattle.letters.proofs.Outside.{passed_start, passed_more, passed_out, passed_all, no_text}
 use Rattle.letters.proofs.is_field.Goals as goal
 
 pub returns-then-text-eq0 : goal.returns-then-text-eq0

@@ -1,8 +1,7 @@
 use Prim.Native.Nat.{◌-◌}
 use mathlib.Core.Path.{◌≡◌}
 use lib.ListN.{length}
-use borrow.Author.Rules.{rules}
-use Rattle.letters.proofs.Outside.{Passed, passed_start, passed_more, passed_out, passed_all, no_text}
+use Rattle.letters.proofs.Outside.{Passed}
 use Rattle.letters.proofs.is_field.Given as goal
 
 abbrev pub invariant-loop-i : goal.invariant-loop-i

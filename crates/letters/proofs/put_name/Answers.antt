@@ -1,4 +1,3 @@
-use borrow.Author.Rules.{rules}
 use Rattle.letters.proofs.Texts.{name_written}
 use Rattle.letters.proofs.put_name.Goals as goal
 

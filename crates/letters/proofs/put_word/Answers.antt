@@ -1,4 +1,3 @@
-use borrow.Author.Rules.{rules}
 use Rattle.letters.proofs.Texts.{word_written}
 use Rattle.letters.proofs.put_word.Goals as goal
 

@@ -1,4 +1,3 @@
-use borrow.Author.Rules.{rules}
 use Rattle.letters.proofs.Texts.{name_taken}
 use Rattle.letters.proofs.takes_name.Goals as goal
 

@@ -1,7 +1,5 @@
-use Prim.Native.Nat.{◌≤◌}
-use lib.ListN.{length}
 use borrow.Author.Rules.{rules}
-use Rattle.letters.proofs.Unpadded.{Trimmed, trimmed_start, trimmed_more, trimmed_found, trimmed_none}
+use Rattle.letters.proofs.Unpadded.{trimmed_start, trimmed_more, trimmed_found, trimmed_none}
 use Rattle.letters.proofs.text_end.Goals as goal
 
 pub loop-n-init : goal.loop-n-init

@@ -1,7 +1,6 @@
 use Prim.Native.Nat.{◌≤◌}
 use lib.ListN.{length}
-use borrow.Author.Rules.{rules}
-use Rattle.letters.proofs.Unpadded.{Trimmed, trimmed_start, trimmed_more, trimmed_found, trimmed_none}
+use Rattle.letters.proofs.Unpadded.{Trimmed}
 use Rattle.letters.proofs.text_end.Given as goal
 
 abbrev pub invariant-loop-n : goal.invariant-loop-n

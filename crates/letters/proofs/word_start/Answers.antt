@@ -1,7 +1,5 @@
-use Prim.Native.Nat.{◌-◌, ◌≤◌}
-use lib.ListN.{length}
 use borrow.Author.Rules.{rules}
-use Rattle.letters.proofs.Words.{Zeros, zeros_start, zeros_more, zeros_found, zeros_all}
+use Rattle.letters.proofs.Words.{zeros_start, zeros_more, zeros_found, zeros_all}
 use Rattle.letters.proofs.word_start.Goals as goal
 
 pub loop-i-init : goal.loop-i-init

@@ -1,7 +1,6 @@
 use Prim.Native.Nat.{◌-◌, ◌≤◌}
 use lib.ListN.{length}
-use borrow.Author.Rules.{rules}
-use Rattle.letters.proofs.Words.{Zeros, zeros_start, zeros_more, zeros_found, zeros_all}
+use Rattle.letters.proofs.Words.{Zeros}
 use Rattle.letters.proofs.word_start.Given as goal
 
 abbrev pub invariant-loop-i : goal.invariant-loop-i

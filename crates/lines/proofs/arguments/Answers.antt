@@ -1,10 +1,9 @@
-use mathlib.Core.Path.{◌≡◌, refl}
-use lib.ListN.{length, length-set}
+use mathlib.Core.Path.{refl}
+use lib.ListN.{length-set}
 use Rattle.lists.specs.Choice.{both}
 use Rattle.lists.specs.Places.{every, all_from}
 use Rattle.model.specs.Lines.{forms}
-use Rattle.lines.proofs.Taken.{Taken, taken_none, taken_room, taken_short, taken_over, taken_made, taken_dataless, turn_room, turn_short, taken_bad, taken_turn, data_bad, data_made, data_found, unread_is, unread_data}
-use borrow.Author.Rules.{rules}
+use Rattle.lines.proofs.Taken.{taken_none, taken_room, taken_short, taken_over, taken_made, taken_dataless, turn_room, turn_short, taken_bad, taken_turn, data_bad, data_made, data_found, unread_is, unread_data}
 use Rattle.lines.proofs.arguments.Goals as goal
 
 pub loop-kinds-init : goal.loop-kinds-init

@@ -1,14 +1,10 @@
 use Prim.Native.Nat.{◌-◌, ◌≤◌}
 use mathlib.Core.Path.{◌≡◌}
-use native.Mathlib.Omega.{arith}
 use lib.Dec.{eqb}
 use lib.ListN.{get_or}
 use Rattle.lists.specs.Places.{lowest_from}
-use Rattle.lists.proofs.Rules.{loops}
-use Rattle.model.specs.Lines.{forms, calls}
+use Rattle.model.specs.Lines.{calls}
 use Rattle.lines.specs.Made.{place_of}
-use Rattle.lines.proofs.Tables.{place_from}
-use borrow.Author.Rules.{rules}
 use Rattle.lines.proofs.call_place.Given as goal
 
 abbrev pub invariant-loop-i : goal.invariant-loop-i

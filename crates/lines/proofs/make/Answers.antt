@@ -3,7 +3,6 @@ use mathlib.Core.Path.{refl}
 use Rattle.model.specs.Lines.{forms}
 use Rattle.lines.specs.Made.{low, lowered, made_by}
 use Rattle.lines.proofs.Tables.{made, made_none}
-use borrow.Author.Rules.{rules}
 use Rattle.lines.proofs.make.Goals as goal
 
 pub returns-in-0 : goal.returns-in-0

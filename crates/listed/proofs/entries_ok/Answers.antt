@@ -1,12 +1,10 @@
-use Prim.Native.Nat.{◌-◌, ◌<◌}
-use mathlib.Core.Bool.{true}
-use mathlib.Core.Path.{◌≡◌, sym, ◌∙◌}
+use mathlib.Core.Path.{sym, ◌∙◌}
 use native.Mathlib.Omega.{arith}
 use borrow.Author.Rules.{rules}
-use Rattle.lists.proofs.Rules.{and_go, and_stop, test_yes}
-use Rattle.lists.proofs.Loops.{Left, left_go, lefts}
+use Rattle.lists.proofs.Rules.{and_go, and_stop}
+use Rattle.lists.proofs.Loops.{left_go, lefts}
 use Rattle.listed.specs.Standings.{standings_with, above_test}
-use Rattle.listed.proofs.Passes.{standing_at, standings_at, untouched_at, above_at, above_stop}
+use Rattle.listed.proofs.Passes.{above_stop}
 use Rattle.listed.proofs.entries_ok.Goals as goal
 
 pub loop-i-init : goal.loop-i-init

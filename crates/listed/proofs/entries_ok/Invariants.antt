@@ -1,12 +1,9 @@
-use Prim.Native.Nat.{◌-◌, ◌<◌}
+use Prim.Native.Nat.{◌<◌}
 use mathlib.Core.Bool.{true}
 use mathlib.Core.Path.{◌≡◌}
-use native.Mathlib.Omega.{arith}
-use borrow.Author.Rules.{rules}
-use Rattle.lists.proofs.Rules.{and_go, and_stop, test_yes}
-use Rattle.lists.proofs.Loops.{Left, left_go, lefts}
+use Rattle.lists.proofs.Loops.{Left}
 use Rattle.listed.specs.Standings.{standings_with, above_test}
-use Rattle.listed.proofs.Passes.{standing_at, standings_at, untouched_at, above_at, above_stop}
+use Rattle.listed.proofs.Passes.{standing_at, standings_at, untouched_at, above_at}
 use Rattle.listed.proofs.entries_ok.Given as goal
 
 abbrev pub invariant-loop-k : goal.invariant-loop-k

@@ -1,6 +1,5 @@
 use Rattle.lists.proofs.Rules.{tests}
 use Rattle.model.specs.SoundTest.{untouched_test}
-use borrow.Author.Rules.{rules}
 use Rattle.listed.proofs.untouched.Goals as goal
 
 pub returns-then-not-is_unused : goal.returns-then-not-is_unused

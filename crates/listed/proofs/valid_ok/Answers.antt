@@ -1,7 +1,6 @@
 use Rattle.listed.proofs.Rules.{lt_is}
 use Rattle.lists.proofs.Rules.{tests}
 use Rattle.listed.specs.Standings.{valid_with}
-use borrow.Author.Rules.{rules}
 use Rattle.listed.proofs.valid_ok.Goals as goal
 
 pub returns-then-slot-ge32 : goal.returns-then-slot-ge32

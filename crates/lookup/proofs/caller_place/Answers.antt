@@ -1,5 +1,4 @@
 use Rattle.lookup.proofs.Rows.{place_by_row}
-use borrow.Author.Rules.{rules}
 use Rattle.lookup.proofs.caller_place.Goals as goal
 
 pub returns : goal.returns

@@ -1,9 +1,4 @@
-use Prim.Native.Nat.{◌≤◌, ◌-◌}
-use mathlib.Core.Path.{◌≡◌}
-use borrow.Author.Rules.{rules}
-use Rattle.lists.specs.Places.{count}
-use Rattle.model.specs.Tables.{space_at}
-use Rattle.model.specs.Searches.{data_spaces, is_data}
+use Rattle.model.specs.Searches.{data_spaces}
 use Rattle.lookup.proofs.Counting.{counting}
 use Rattle.lookup.proofs.data_spaces.Goals as goal
 

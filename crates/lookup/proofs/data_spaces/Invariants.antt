@@ -1,10 +1,8 @@
-use Prim.Native.Nat.{◌≤◌, ◌-◌}
+use Prim.Native.Nat.{◌≤◌}
 use mathlib.Core.Path.{◌≡◌}
-use borrow.Author.Rules.{rules}
 use Rattle.lists.specs.Places.{count}
 use Rattle.model.specs.Tables.{space_at}
-use Rattle.model.specs.Searches.{data_spaces, is_data}
-use Rattle.lookup.proofs.Counting.{counting}
+use Rattle.model.specs.Searches.{is_data}
 use Rattle.lookup.proofs.data_spaces.Given as goal
 
 abbrev pub invariant-loop-u : goal.invariant-loop-u

@@ -1,11 +1,8 @@
-use Prim.Native.Nat.{◌≤◌, ◌-◌}
-use mathlib.Core.Path.{◌≡◌, refl}
+use mathlib.Core.Path.{refl}
 use native.Mathlib.Omega.{arith}
-use borrow.Author.Rules.{rules}
-use Rattle.lists.specs.Places.{lowest, lowest_from}
+use Rattle.lists.specs.Places.{lowest}
 use Rattle.lists.proofs.Rules.{loops}
-use Rattle.model.specs.Tables.{space_at}
-use Rattle.model.specs.Searches.{slot_named, is_named}
+use Rattle.model.specs.Searches.{slot_named}
 use Rattle.lookup.proofs.find_named.Goals as goal
 
 pub loop-u-init : goal.loop-u-init

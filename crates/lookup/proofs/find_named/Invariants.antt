@@ -1,9 +1,6 @@
 use Prim.Native.Nat.{◌≤◌, ◌-◌}
-use mathlib.Core.Path.{◌≡◌, refl}
-use native.Mathlib.Omega.{arith}
-use borrow.Author.Rules.{rules}
-use Rattle.lists.specs.Places.{lowest, lowest_from}
-use Rattle.lists.proofs.Rules.{loops}
+use mathlib.Core.Path.{◌≡◌}
+use Rattle.lists.specs.Places.{lowest_from}
 use Rattle.model.specs.Tables.{space_at}
 use Rattle.model.specs.Searches.{slot_named, is_named}
 use Rattle.lookup.proofs.find_named.Given as goal

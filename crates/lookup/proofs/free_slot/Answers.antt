@@ -1,11 +1,7 @@
-use Prim.Native.Nat.{◌≤◌, ◌-◌}
-use mathlib.Core.Bool.{not}
-use mathlib.Core.Path.{◌≡◌, refl}
+use mathlib.Core.Path.{refl}
 use native.Mathlib.Omega.{arith}
-use borrow.Author.Rules.{rules}
-use Rattle.lists.specs.Places.{lowest, lowest_from}
+use Rattle.lists.specs.Places.{lowest}
 use Rattle.lists.proofs.Rules.{loops, tests}
-use Rattle.model.specs.Tables.{space_at, live}
 use Rattle.model.specs.Searches.{free_slot}
 use Rattle.lookup.proofs.free_slot.Goals as goal
 

@@ -1,5 +1,4 @@
 use Rattle.lookup.proofs.Owning.{owned_by_row}
-use borrow.Author.Rules.{rules}
 use Rattle.lookup.proofs.owned_space.Goals as goal
 
 pub returns : goal.returns

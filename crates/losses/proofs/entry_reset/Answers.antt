@@ -1,5 +1,4 @@
 use Rattle.lists.proofs.Rules.{calls}
-use borrow.Author.Rules.{rules}
 use Rattle.losses.proofs.entry_reset.Goals as goal
 
 pub returns-then-own : goal.returns-then-own

@@ -1,4 +1,3 @@
-use borrow.Author.Rules.{rules}
 use Rattle.losses.proofs.Looks.{without_slot}
 use Rattle.losses.proofs.entry_without.Goals as goal
 

@@ -1,5 +1,4 @@
 use native.Mathlib.Omega.{arith}
-use borrow.Author.Rules.{rules}
 use Rattle.lists.proofs.Rules.{tests}
 use Rattle.losses.specs.Looks.{kept_list}
 use Rattle.losses.proofs.kept_list.Goals as goal

@@ -1,4 +1,3 @@
-use borrow.Author.Rules.{rules}
 use Rattle.losses.proofs.Looks.{looks}
 use Rattle.losses.proofs.look_place.Goals as goal
 

@@ -1,5 +1,4 @@
 use Rattle.lists.proofs.Rules.{tests}
-use borrow.Author.Rules.{rules}
 use Rattle.losses.proofs.permit_unless.Goals as goal
 
 pub returns-then-closed : goal.returns-then-closed

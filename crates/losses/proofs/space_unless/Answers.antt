@@ -1,5 +1,4 @@
 use Rattle.lists.proofs.Rules.{tests}
-use borrow.Author.Rules.{rules}
 use Rattle.losses.proofs.space_unless.Goals as goal
 
 pub returns-then-gone : goal.returns-then-gone

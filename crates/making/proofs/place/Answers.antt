@@ -1,5 +1,4 @@
 use Rattle.making.proofs.Checks.{no_slot, spent, no_run, at_slot}
-use borrow.Author.Rules.{rules}
 use Rattle.making.proofs.place.Goals as goal
 
 pub returns-then-slot-ge32 : goal.returns-then-slot-ge32

@@ -1,7 +1,4 @@
-use Prim.Native.Nat.{◌-◌}
-use lib.ListN.{replicate}
-use borrow.Author.Rules.{rules}
-use Rattle.moves.proofs.Copied.{Copied, turns}
+use Rattle.moves.proofs.Copied.{turns}
 use Rattle.moves.proofs.clear.Goals as goal
 
 pub loop-k-init : goal.loop-k-init

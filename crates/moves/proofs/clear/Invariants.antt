@@ -1,7 +1,6 @@
 use Prim.Native.Nat.{◌-◌}
 use lib.ListN.{replicate}
-use borrow.Author.Rules.{rules}
-use Rattle.moves.proofs.Copied.{Copied, turns}
+use Rattle.moves.proofs.Copied.{Copied}
 use Rattle.moves.proofs.clear.Given as goal
 
 abbrev pub invariant-loop-k : goal.invariant-loop-k

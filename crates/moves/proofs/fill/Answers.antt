@@ -1,7 +1,4 @@
-use Prim.Native.Nat.{◌-◌}
-use lib.ListN.{length}
-use borrow.Author.Rules.{rules}
-use Rattle.moves.proofs.Copied.{Copied, turns}
+use Rattle.moves.proofs.Copied.{turns}
 use Rattle.moves.proofs.fill.Goals as goal
 
 pub loop-j-init : goal.loop-j-init

@@ -1,9 +1,4 @@
-use Prim.Native.Nat.{◌-◌, ◌≤◌}
-use mathlib.Core.Path.{◌≡◌}
-use lib.ListN.{length}
 use Rattle.lists.proofs.Rules.{loops}
-use Rattle.moves.specs.Found.{byte_from}
-use borrow.Author.Rules.{rules}
 use Rattle.moves.proofs.find.Goals as goal
 
 pub returns-then-bytes-i : goal.returns-then-bytes-i

@@ -1,9 +1,7 @@
 use Prim.Native.Nat.{◌-◌, ◌≤◌}
 use mathlib.Core.Path.{◌≡◌}
 use lib.ListN.{length}
-use Rattle.lists.proofs.Rules.{loops}
 use Rattle.moves.specs.Found.{byte_from}
-use borrow.Author.Rules.{rules}
 use Rattle.moves.proofs.find.Given as goal
 
 abbrev pub invariant-loop-i : goal.invariant-loop-i

@@ -1,8 +1,4 @@
-use Prim.Native.Nat.{◌+◌, ◌-◌}
-use lib.Dec.{eqb}
-use lib.ListN.{get_or}
-use Rattle.lists.proofs.Counting.{Counting, countings}
-use borrow.Author.Rules.{rules}
+use Rattle.lists.proofs.Counting.{countings}
 use Rattle.moves.proofs.in_block.Goals as goal
 
 pub loop-k-init : goal.loop-k-init

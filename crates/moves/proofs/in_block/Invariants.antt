@@ -1,8 +1,7 @@
-use Prim.Native.Nat.{◌+◌, ◌-◌}
+use Prim.Native.Nat.{◌+◌}
 use lib.Dec.{eqb}
 use lib.ListN.{get_or}
-use Rattle.lists.proofs.Counting.{Counting, countings}
-use borrow.Author.Rules.{rules}
+use Rattle.lists.proofs.Counting.{Counting}
 use Rattle.moves.proofs.in_block.Given as goal
 
 abbrev pub invariant-loop-k : goal.invariant-loop-k

@@ -1,10 +1,6 @@
-use Prim.Native.Nat.{◌-◌, ◌≤◌}
-use mathlib.Core.Path.{◌≡◌, refl}
+use mathlib.Core.Path.{refl}
 use native.Mathlib.Omega.{arith}
-use lib.ListN.{length}
-use Rattle.moves.specs.Found.{byte_from}
 use Rattle.moves.proofs.Blocks.{block_go}
-use borrow.Author.Rules.{rules}
 use Rattle.moves.proofs.pass_blocks.Goals as goal
 
 pub loop-i-init : goal.loop-i-init

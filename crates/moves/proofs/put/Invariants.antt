@@ -1,7 +1,6 @@
 use Prim.Native.Nat.{◌-◌}
 use lib.ListN.{length}
-use borrow.Author.Rules.{rules}
-use Rattle.moves.proofs.Copied.{Copied, turns}
+use Rattle.moves.proofs.Copied.{Copied}
 use Rattle.moves.proofs.put.Given as goal
 
 abbrev pub invariant-loop-i : goal.invariant-loop-i

@@ -1,5 +1,4 @@
 use Rattle.names.proofs.Blanks.{rests}
-use borrow.Author.Rules.{rules}
 use Rattle.names.proofs.good_end.Goals as goal
 
 pub returns-then-not-is_later : goal.returns-then-not-is_later

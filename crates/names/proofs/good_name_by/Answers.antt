@@ -1,6 +1,5 @@
 use Rattle.model.specs.Names.{name_form, name_bytes, good_name}
 use Rattle.names.proofs.Blanks.{rests}
-use borrow.Author.Rules.{rules}
 use Rattle.names.proofs.good_name_by.Goals as goal
 
 pub returns-then-first-lt65 : goal.returns-then-first-lt65

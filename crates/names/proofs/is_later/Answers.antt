@@ -1,5 +1,4 @@
 use Rattle.names.proofs.Table.{is_one}
-use borrow.Author.Rules.{rules}
 use Rattle.names.proofs.is_later.Goals as goal
 
 pub returns : goal.returns

@@ -1,8 +1,6 @@
 use mathlib.Core.Bool.{not}
 use mathlib.Core.Path.{ap}
-use Prim.Native.Nat.{◌-◌, ◌<◌}
-use borrow.Author.Rules.{rules}
-use Rattle.pairs.proofs.Against.{Against, against_start, against_go, against_row, against_stop, against_done}
+use Rattle.pairs.proofs.Against.{against_start, against_go, against_row, against_stop, against_done}
 use Rattle.pairs.proofs.apart_ok.Goals as goal
 
 pub loop-u-init : goal.loop-u-init

@@ -1,6 +1,5 @@
-use Prim.Native.Nat.{◌-◌, ◌<◌}
-use borrow.Author.Rules.{rules}
-use Rattle.pairs.proofs.Against.{Against, against_start, against_go, against_row, against_stop, against_done}
+use Prim.Native.Nat.{◌<◌}
+use Rattle.pairs.proofs.Against.{Against}
 use Rattle.pairs.proofs.apart_ok.Given as goal
 
 abbrev pub invariant-loop-v : goal.invariant-loop-v

@@ -1,5 +1,4 @@
 use mathlib.Core.Path.{refl}
-use borrow.Author.Rules.{rules}
 use Rattle.model.specs.Lines.{forms}
 use Rattle.model.specs.Parts.{call_parts}
 use Rattle.parting.proofs.Parting.{call_told}

@@ -1,5 +1,4 @@
 use mathlib.Core.Path.{refl}
-use borrow.Author.Rules.{rules}
 use Rattle.model.specs.Lines.{forms}
 use Rattle.model.specs.Parts.{parts_of}
 use Rattle.parting.proofs.Parting.{request_told}

@@ -1,5 +1,4 @@
 use mathlib.Core.Path.{sym, ap}
-use borrow.Author.Rules.{rules}
 use Rattle.model.specs.Parts.{right_number}
 use Rattle.parting.proofs.right_number.Goals as goal
 

@@ -1,4 +1,3 @@
-use borrow.Author.Rules.{rules}
 use Rattle.model.specs.Changes.{allows}
 use Rattle.permits.proofs.allows.Goals as goal
 

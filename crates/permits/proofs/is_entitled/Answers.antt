@@ -1,4 +1,3 @@
-use borrow.Author.Rules.{rules}
 use Rattle.lists.proofs.Rules.{tests, calls}
 use Rattle.permits.proofs.is_entitled.Goals as goal
 

@@ -1,4 +1,3 @@
-use borrow.Author.Rules.{rules}
 use Rattle.model.specs.Changes.{raised}
 use Rattle.permits.proofs.raise.Goals as goal
 

@@ -1,6 +1,4 @@
-use Prim.Native.Nat.{◌-◌}
-use borrow.Author.Rules.{rules}
-use Rattle.permitted.proofs.Counting.{Exceeding, excess_start, excess_fit, excess_go, excess_end}
+use Rattle.permitted.proofs.Counting.{Exceeding}
 use Rattle.permitted.proofs.excess_of.Given as goal
 
 abbrev pub invariant-loop-k : goal.invariant-loop-k

@@ -1,9 +1,6 @@
-use Prim.Native.Nat.{◌+◌, ◌-◌, ◌*◌, ◌≤◌, ◌<◌}
-use mathlib.Core.Path.{◌≡◌, refl}
-use borrow.Author.Rules.{rules}
+use mathlib.Core.Path.{refl}
 use native.Mathlib.Omega.{arith}
-use Rattle.permitted.specs.Columns.{owner_in, limit_at}
-use Rattle.permitted.proofs.Tables.{Filling, fill_start, limit_enter, limit_go, limit_row, limit_end}
+use Rattle.permitted.proofs.Tables.{fill_start, limit_enter, limit_go, limit_row, limit_end}
 use Rattle.permitted.proofs.limits_of.Goals as goal
 
 pub loop-u-init : goal.loop-u-init

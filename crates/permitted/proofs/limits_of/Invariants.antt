@@ -1,9 +1,7 @@
-use Prim.Native.Nat.{◌+◌, ◌-◌, ◌*◌, ◌≤◌, ◌<◌}
-use mathlib.Core.Path.{◌≡◌, refl}
-use borrow.Author.Rules.{rules}
-use native.Mathlib.Omega.{arith}
+use Prim.Native.Nat.{◌+◌, ◌*◌, ◌≤◌, ◌<◌}
+use mathlib.Core.Path.{◌≡◌}
 use Rattle.permitted.specs.Columns.{owner_in, limit_at}
-use Rattle.permitted.proofs.Tables.{Filling, fill_start, limit_enter, limit_go, limit_row, limit_end}
+use Rattle.permitted.proofs.Tables.{Filling}
 use Rattle.permitted.proofs.limits_of.Given as goal
 
 abbrev pub invariant-loop-k : goal.invariant-loop-k

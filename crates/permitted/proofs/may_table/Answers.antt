@@ -1,8 +1,5 @@
-use Prim.Native.Nat.{◌+◌, ◌-◌, ◌*◌, ◌≤◌, ◌<◌}
-use borrow.Author.Rules.{rules}
 use native.Mathlib.Omega.{arith}
-use Rattle.permitted.specs.Columns.{may_at}
-use Rattle.permitted.proofs.Tables.{Filling, may_start, may_go, may_row, may_enter, may_end}
+use Rattle.permitted.proofs.Tables.{may_start, may_go, may_row, may_enter, may_end}
 use Rattle.permitted.proofs.may_table.Goals as goal
 
 pub loop-i-init : goal.loop-i-init

@@ -1,8 +1,6 @@
-use Prim.Native.Nat.{◌+◌, ◌-◌, ◌*◌, ◌≤◌, ◌<◌}
-use borrow.Author.Rules.{rules}
-use native.Mathlib.Omega.{arith}
+use Prim.Native.Nat.{◌+◌, ◌*◌, ◌≤◌, ◌<◌}
 use Rattle.permitted.specs.Columns.{may_at}
-use Rattle.permitted.proofs.Tables.{Filling, may_start, may_go, may_row, may_enter, may_end}
+use Rattle.permitted.proofs.Tables.{Filling}
 use Rattle.permitted.proofs.may_table.Given as goal
 
 abbrev pub invariant-loop-k : goal.invariant-loop-k

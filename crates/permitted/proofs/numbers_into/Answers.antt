@@ -1,7 +1,4 @@
-use Prim.Native.Nat.{◌-◌}
-use borrow.Author.Rules.{rules}
-use Rattle.permitted.specs.Columns.{number_at}
-use Rattle.permitted.proofs.Tables.{Filling, fills}
+use Rattle.permitted.proofs.Tables.{fills}
 use Rattle.permitted.proofs.numbers_into.Goals as goal
 
 pub loop-k-init : goal.loop-k-init

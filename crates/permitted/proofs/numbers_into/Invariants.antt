@@ -1,7 +1,5 @@
-use Prim.Native.Nat.{◌-◌}
-use borrow.Author.Rules.{rules}
 use Rattle.permitted.specs.Columns.{number_at}
-use Rattle.permitted.proofs.Tables.{Filling, fills}
+use Rattle.permitted.proofs.Tables.{Filling}
 use Rattle.permitted.proofs.numbers_into.Given as goal
 
 abbrev pub invariant-loop-k : goal.invariant-loop-k

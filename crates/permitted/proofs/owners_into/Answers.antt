@@ -1,6 +1,4 @@
-use Prim.Native.Nat.{◌-◌}
-use borrow.Author.Rules.{rules}
-use Rattle.permitted.proofs.Tables.{Powered, power_start, power_go, power_end}
+use Rattle.permitted.proofs.Tables.{power_start, power_go, power_end}
 use Rattle.permitted.proofs.owners_into.Goals as goal
 
 pub loop-u-init : goal.loop-u-init

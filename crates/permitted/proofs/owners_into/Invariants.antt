@@ -1,6 +1,4 @@
-use Prim.Native.Nat.{◌-◌}
-use borrow.Author.Rules.{rules}
-use Rattle.permitted.proofs.Tables.{Powered, power_start, power_go, power_end}
+use Rattle.permitted.proofs.Tables.{Powered}
 use Rattle.permitted.proofs.owners_into.Given as goal
 
 abbrev pub invariant-loop-u : goal.invariant-loop-u

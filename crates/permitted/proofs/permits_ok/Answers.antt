@@ -1,5 +1,4 @@
 use Rattle.permitted.proofs.Permits.{permits_stop, permits_done}
-use borrow.Author.Rules.{rules}
 use Rattle.permitted.proofs.permits_ok.Goals as goal
 
 pub returns-then-excess_of-ne0 : goal.returns-then-excess_of-ne0

@@ -1,4 +1,3 @@
-use borrow.Author.Rules.{rules}
 use Rattle.lists.proofs.Rules.{tests}
 use Rattle.model.specs.Calls.{ready}
 use Rattle.ready.proofs.is_ready.Goals as goal

@@ -1,6 +1,5 @@
 use Rattle.closing.proofs.Withdrawn.{isolated_by}
 use Rattle.rights.proofs.Seen.{closed_reply}
-use borrow.Author.Rules.{rules}
 use Rattle.rights.proofs.closed.Goals as goal
 
 pub returns : goal.returns

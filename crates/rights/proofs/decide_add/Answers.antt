@@ -4,7 +4,6 @@ use native.Mathlib.Omega.{arith}
 use Rattle.model.specs.Calls.{enrols}
 use Rattle.edits.proofs.Kept.{decided_bad}
 use Rattle.rights.proofs.Seen.{add_none, add_not, add_full, add_done, free_byte}
-use borrow.Author.Rules.{rules}
 use Rattle.rights.proofs.decide_add.Goals as goal
 
 pub returns-then-at-ge8 : goal.returns-then-at-ge8

@@ -1,5 +1,4 @@
 use Rattle.rights.proofs.Seen.{isolate_bad, isolate_told}
-use borrow.Author.Rules.{rules}
 use Rattle.rights.proofs.decide_isolate.Goals as goal
 
 pub returns-then-at-ge8 : goal.returns-then-at-ge8

@@ -1,7 +1,6 @@
 use Rattle.model.specs.Calls.{enrols}
 use Rattle.edits.proofs.Kept.{decided_bad}
 use Rattle.rights.proofs.Seen.{permit_self, permit_unknown, permit_refused, permit_unshared, permit_done, slot_byte, permit_byte}
-use borrow.Author.Rules.{rules}
 use Rattle.rights.proofs.decide_permit.Goals as goal
 
 pub returns-then-at-ge8 : goal.returns-then-at-ge8

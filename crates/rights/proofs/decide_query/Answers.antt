@@ -1,7 +1,6 @@
 use Rattle.model.specs.Calls.{enrols}
 use Rattle.edits.proofs.Kept.{decided_bad}
 use Rattle.rights.proofs.Seen.{query_owner, query_name, query_none, query_not, query_done}
-use borrow.Author.Rules.{rules}
 use Rattle.rights.proofs.decide_query.Goals as goal
 
 pub returns-then-at-ge8 : goal.returns-then-at-ge8

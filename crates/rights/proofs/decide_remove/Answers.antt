@@ -1,7 +1,6 @@
 use Rattle.model.specs.Calls.{enrols}
 use Rattle.edits.proofs.Kept.{decided_bad}
 use Rattle.rights.proofs.Seen.{remove_zero, remove_malformed, remove_unassigned, remove_done, number_low, entry_byte}
-use borrow.Author.Rules.{rules}
 use Rattle.rights.proofs.decide_remove.Goals as goal
 
 pub returns-then-at-ge8 : goal.returns-then-at-ge8

@@ -1,5 +1,4 @@
 use Rattle.rights.proofs.Seen.{isolate_refused, isolate_low, isolate_done}
-use borrow.Author.Rules.{rules}
 use Rattle.rights.proofs.isolate.Goals as goal
 
 pub closed-requires : goal.closed-requires

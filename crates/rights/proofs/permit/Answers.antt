@@ -1,5 +1,4 @@
 use Rattle.edits.proofs.Kept.{seen_carried}
-use borrow.Author.Rules.{rules}
 use Rattle.rights.proofs.permit.Goals as goal
 
 pub returns : goal.returns

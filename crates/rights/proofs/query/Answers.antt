@@ -1,5 +1,4 @@
 use Rattle.edits.proofs.Kept.{seen_told}
-use borrow.Author.Rules.{rules}
 use Rattle.rights.proofs.query.Goals as goal
 
 pub returns : goal.returns

@@ -1,6 +1,4 @@
-use Prim.Native.Nat.{◌≤◌}
-use borrow.Author.Rules.{rules}
-use Rattle.runs.proofs.Runs.{Tried, left, runs}
+use Rattle.runs.proofs.Runs.{runs}
 use Rattle.runs.proofs.free_run.Goals as goal
 
 pub returns-then-frames-pages : goal.returns-then-frames-pages

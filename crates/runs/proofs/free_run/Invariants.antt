@@ -1,6 +1,5 @@
 use Prim.Native.Nat.{◌≤◌}
-use borrow.Author.Rules.{rules}
-use Rattle.runs.proofs.Runs.{Tried, left, runs}
+use Rattle.runs.proofs.Runs.{Tried, left}
 use Rattle.runs.proofs.free_run.Given as goal
 
 abbrev pub invariant-loop-clear : goal.invariant-loop-clear

@@ -1,6 +1,5 @@
 use Rattle.lists.proofs.Rules.{tests}
 use Rattle.model.specs.SoundTest.{absent_test}
-use borrow.Author.Rules.{rules}
 use Rattle.settings.proofs.absent_ok.Goals as goal
 
 pub returns-then-x-ne0 : goal.returns-then-x-ne0

@@ -1,6 +1,5 @@
 use Rattle.lists.proofs.Rules.{tests}
 use Rattle.settings.specs.Guests.{guest_with}
-use borrow.Author.Rules.{rules}
 use Rattle.settings.proofs.guest_ok.Goals as goal
 
 pub returns-then-x : goal.returns-then-x

@@ -1,9 +1,4 @@
-use Prim.Native.Nat.{◌-◌}
-use lib.Dec.{eqb}
-use lib.ListN.{get_or}
-use borrow.Author.Rules.{rules}
-use Rattle.lists.specs.Places.{every}
-use Rattle.lists.proofs.Loops.{Left, lefts}
+use Rattle.lists.proofs.Loops.{lefts}
 use Rattle.settings.proofs.zero_registers.Goals as goal
 
 pub loop-i-init : goal.loop-i-init

@@ -1,9 +1,7 @@
-use Prim.Native.Nat.{◌-◌}
 use lib.Dec.{eqb}
 use lib.ListN.{get_or}
-use borrow.Author.Rules.{rules}
 use Rattle.lists.specs.Places.{every}
-use Rattle.lists.proofs.Loops.{Left, lefts}
+use Rattle.lists.proofs.Loops.{Left}
 use Rattle.settings.proofs.zero_registers.Given as goal
 
 abbrev pub invariant-loop-i : goal.invariant-loop-i

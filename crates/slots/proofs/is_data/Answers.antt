@@ -1,6 +1,5 @@
 use mathlib.Core.Bool.{Bool, not}
 use mathlib.Core.Path.{◌≡◌, ap}
-use borrow.Author.Rules.{rules}
 use Rattle.lists.proofs.Rules.{tests, calls}
 use Rattle.slots.proofs.is_data.Goals as goal
 

@@ -1,4 +1,3 @@
-use borrow.Author.Rules.{rules}
 use Rattle.texts.proofs.ByKind.{room_name, room_number, room_right, data_lent, room_data, text_data, text_name, text_number, text_right}
 use Rattle.texts.proofs.put_field.Goals as goal
 

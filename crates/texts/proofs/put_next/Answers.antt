@@ -1,4 +1,3 @@
-use borrow.Author.Rules.{rules}
 use Rattle.digits.proofs.Writing.{wrote_more}
 use Rattle.texts.proofs.put_next.Goals as goal
 

@@ -1,4 +1,3 @@
-use borrow.Author.Rules.{rules}
 use Rattle.texts.proofs.ByKind.{takes_long, takes_data, takes_named, takes_other}
 use Rattle.texts.proofs.takes_field.Goals as goal
 

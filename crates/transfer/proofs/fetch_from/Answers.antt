@@ -1,7 +1,6 @@
 use Rattle.lists.proofs.Rules.{tests, test_yes}
 use Rattle.transfer.specs.Transferred.{fetch_answer, fetched}
 use Rattle.transfer.proofs.Lending.{lending, fetched_inside}
-use borrow.Author.Rules.{rules}
 use Rattle.transfer.proofs.fetch_from.Goals as goal
 
 pub returns-then-not-fits : goal.returns-then-not-fits

@@ -1,7 +1,6 @@
 use Rattle.lists.proofs.Rules.{tests, test_yes}
 use Rattle.transfer.specs.Transferred.{store_answer, stored}
 use Rattle.transfer.proofs.Lending.{lending, store_passes, stored_inside}
-use borrow.Author.Rules.{rules}
 use Rattle.transfer.proofs.store_to.Goals as goal
 
 pub returns-then-not-fits : goal.returns-then-not-fits

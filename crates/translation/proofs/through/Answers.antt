@@ -1,5 +1,4 @@
 use Rattle.model.specs.Translation.{through_standing}
-use borrow.Author.Rules.{rules}
 use Rattle.translation.proofs.through.Goals as goal
 
 pub returns-in-Unused : goal.returns-in-Unused

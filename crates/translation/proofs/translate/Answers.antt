@@ -1,7 +1,6 @@
 use Rattle.lists.proofs.Rules.{tests}
 use Rattle.translation.specs.Translated.{translated_by}
 use Rattle.translation.proofs.Translated.{translation}
-use borrow.Author.Rules.{rules}
 use Rattle.translation.proofs.translate.Goals as goal
 
 pub returns-then-token-eq0 : goal.returns-then-token-eq0

@@ -1,5 +1,4 @@
 use Rattle.views.proofs.Slots.{step_yes, step_no}
-use borrow.Author.Rules.{rules}
 use Rattle.views.proofs.advance.Goals as goal
 
 pub returns-then-is_sought : goal.returns-then-is_sought

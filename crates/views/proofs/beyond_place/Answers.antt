@@ -1,6 +1,5 @@
 use native.Mathlib.Omega.{arith}
 use Rattle.views.specs.Views.{cell_place}
-use borrow.Author.Rules.{rules}
 use Rattle.views.proofs.beyond_place.Goals as goal
 
 pub returns : goal.returns

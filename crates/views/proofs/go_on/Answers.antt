@@ -1,5 +1,4 @@
 use Rattle.views.proofs.Lists.{stop_there, go_there, at_small}
-use borrow.Author.Rules.{rules}
 use Rattle.views.proofs.go_on.Goals as goal
 
 pub returns-then-may_take : goal.returns-then-may_take

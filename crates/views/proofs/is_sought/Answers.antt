@@ -1,5 +1,4 @@
 use Rattle.views.specs.Search.{sought_by}
-use borrow.Author.Rules.{rules}
 use Rattle.views.proofs.is_sought.Goals as goal
 
 pub returns-in-Nothing : goal.returns-in-Nothing

@@ -1,5 +1,4 @@
 use Rattle.views.specs.Search.{search_by}
-use borrow.Author.Rules.{rules}
 use Rattle.views.proofs.search_by.Goals as goal
 
 pub returns-in-Nothing : goal.returns-in-Nothing

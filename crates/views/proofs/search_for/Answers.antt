@@ -1,5 +1,4 @@
 use Rattle.views.proofs.Slots.{begins, begins_by, begins_through}
-use borrow.Author.Rules.{rules}
 use Rattle.views.proofs.search_for.Goals as goal
 
 pub returns-in-Token : goal.returns-in-Token

@@ -1,6 +1,5 @@
 use Rattle.views.specs.Search.{slot_in}
 use Rattle.views.proofs.Told.{through_primary, through_entry}
-use borrow.Author.Rules.{rules}
 use Rattle.views.proofs.search_through.Goals as goal
 
 pub returns-then-token-eq0 : goal.returns-then-token-eq0

@@ -1,8 +1,4 @@
-use Prim.Native.Nat.{◌<◌}
-use mathlib.Core.Bool.{true}
-use mathlib.Core.Path.{◌≡◌, refl}
-use Rattle.views.specs.Search.{found_by, left_of}
-use Rattle.views.specs.Taking.{taken_by, left_in, WithinList}
+use mathlib.Core.Path.{refl}
 use Rattle.views.proofs.Lists.{within_list, took_on, took_within, took_nearer}
 use Rattle.views.proofs.Seen.{view_read}
 use Rattle.views.proofs.Slots.{at_inside, went_on, went_nearer, went_inside}

@@ -1,5 +1,4 @@
 use Rattle.views.proofs.Told.{token_own, token_none, token_loaded}
-use borrow.Author.Rules.{rules}
 use Rattle.views.proofs.token_seen.Goals as goal
 
 pub returns-then-register-gt15 : goal.returns-then-register-gt15

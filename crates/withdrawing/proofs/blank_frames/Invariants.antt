@@ -1,16 +1,12 @@
-use Prim.Native.Nat.{◌-◌, ◌≤◌}
+use Prim.Native.Nat.{◌≤◌}
 use mathlib.Core.Path.{◌≡◌}
-use native.Mathlib.Omega.{arith}
 use lib.ListN.{length}
-use borrow.Author.Rules.{rules}
 use Rattle.model.specs.Changes.{blanked}
 use Rattle.model.specs.Searches.{is_data}
 use Rattle.model.specs.Tables.{no_cell}
 use Rattle.frames.specs.Runs.{slots_of}
-use Rattle.frames.proofs.Freeing.{freed_below, freed_inside}
-use Rattle.closing.proofs.Closed.{turns}
+use Rattle.frames.proofs.Freeing.{freed_below}
 use Rattle.closing.proofs.Ranges.{Ranged}
-use Rattle.withdrawing.proofs.Freeing.{blanked_length, freeing}
 use Rattle.withdrawing.proofs.blank_frames.Given as goal
 
 -- blank, the inner one those of the run in slot u that lie below f. Assumes nothing.

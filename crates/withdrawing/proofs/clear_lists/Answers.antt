@@ -1,12 +1,5 @@
-use Prim.Native.Nat.{◌≤◌, ◌-◌}
-use mathlib.Core.Path.{◌≡◌}
 use native.Mathlib.Omega.{arith}
-use lib.Dec.{eqb}
-use Rattle.lists.specs.Choice.{choose}
 use Rattle.lists.proofs.Rules.{maps}
-use Rattle.lists.proofs.Maps.{map_below}
-use Rattle.model.specs.Changes.{released, revoked, list_owner}
-use Rattle.model.specs.Leaves.{flag}
 use borrow.Author.Rules.{rules}
 use Rattle.withdrawing.specs.Sets.{entries_reset}
 use Rattle.withdrawing.proofs.Resetting.{looks}

@@ -1,15 +1,10 @@
-use Prim.Native.Nat.{◌≤◌, ◌-◌}
+use Prim.Native.Nat.{◌≤◌}
 use mathlib.Core.Path.{◌≡◌}
-use native.Mathlib.Omega.{arith}
 use lib.Dec.{eqb}
 use Rattle.lists.specs.Choice.{choose}
-use Rattle.lists.proofs.Rules.{maps}
 use Rattle.lists.proofs.Maps.{map_below}
 use Rattle.model.specs.Changes.{released, revoked, list_owner}
 use Rattle.model.specs.Leaves.{flag}
-use borrow.Author.Rules.{rules}
-use Rattle.withdrawing.specs.Sets.{entries_reset}
-use Rattle.withdrawing.proofs.Resetting.{looks}
 use Rattle.withdrawing.proofs.clear_lists.Given as goal
 
 abbrev pub invariant-loop-k : goal.invariant-loop-k

@@ -1,4 +1,3 @@
-use borrow.Author.Rules.{rules}
 use Rattle.lists.specs.Choice.{choose}
 use Rattle.model.specs.Arguments.{arguments, check_all}
 use Rattle.model.specs.Calls.{judge, good_caller, enrols, perform, destroy}

@@ -1,5 +1,3 @@
-use borrow.Author.Rules.{rules}
-use Rattle.frames.proofs.Inside.{run_inside}
 use Rattle.closing.proofs.Withdrawn.{destroyed_by}
 use Rattle.withdrawing.proofs.destroy_at.Goals as goal
 

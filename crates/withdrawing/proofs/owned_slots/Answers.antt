@@ -1,9 +1,5 @@
-use Prim.Native.Nat.{◌≤◌, ◌-◌}
-use mathlib.Core.Path.{◌≡◌}
 use native.Mathlib.Omega.{arith}
-use Rattle.model.specs.Searches.{is_owned}
-use Rattle.frames.specs.Runs.{slots_of}
-use Rattle.withdrawing.proofs.Sets.{slots_below, slots}
+use Rattle.withdrawing.proofs.Sets.{slots}
 use borrow.Author.Rules.{rules}
 use Rattle.withdrawing.proofs.owned_slots.Goals as goal
 

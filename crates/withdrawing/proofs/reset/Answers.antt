@@ -1,4 +1,3 @@
-use borrow.Author.Rules.{rules}
 use Rattle.lists.specs.Choice.{choose}
 use Rattle.model.specs.Calls.{judge, good_caller, enrols}
 use Rattle.model.proofs.Rules.{steps, places}

@@ -1,4 +1,3 @@
-use borrow.Author.Rules.{rules}
 use Rattle.withdrawing.proofs.space_reset.Goals as goal
 
 pub returns : goal.returns

@@ -1,12 +1,6 @@
-use Prim.Native.Nat.{◌≤◌, ◌-◌}
-use mathlib.Core.Path.{◌≡◌}
 use native.Mathlib.Omega.{arith}
 use Rattle.lists.proofs.Rules.{maps}
-use Rattle.lists.proofs.Maps.{map_below}
-use Rattle.lists.specs.Choice.{choose}
-use Rattle.model.specs.Changes.{unpermitted, permit_slot}
-use Rattle.model.specs.Leaves.{flag}
-use Rattle.model.specs.Tables.{no_permit}
+use Rattle.model.specs.Changes.{unpermitted}
 use borrow.Author.Rules.{rules}
 use Rattle.withdrawing.proofs.unpermit.Goals as goal
 

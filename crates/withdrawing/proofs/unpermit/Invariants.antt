@@ -1,13 +1,10 @@
-use Prim.Native.Nat.{◌≤◌, ◌-◌}
+use Prim.Native.Nat.{◌≤◌}
 use mathlib.Core.Path.{◌≡◌}
-use native.Mathlib.Omega.{arith}
-use Rattle.lists.proofs.Rules.{maps}
 use Rattle.lists.proofs.Maps.{map_below}
 use Rattle.lists.specs.Choice.{choose}
-use Rattle.model.specs.Changes.{unpermitted, permit_slot}
+use Rattle.model.specs.Changes.{permit_slot}
 use Rattle.model.specs.Leaves.{flag}
 use Rattle.model.specs.Tables.{no_permit}
-use borrow.Author.Rules.{rules}
 use Rattle.withdrawing.proofs.unpermit.Given as goal
 
 abbrev pub invariant-loop-k : goal.invariant-loop-k

@@ -1,13 +1,9 @@
-use Prim.Native.Nat.{◌≤◌, ◌-◌}
+use Prim.Native.Nat.{◌≤◌}
 use mathlib.Core.Path.{◌≡◌}
-use native.Mathlib.Omega.{arith}
 use Rattle.lists.specs.Choice.{choose}
-use Rattle.lists.proofs.Rules.{maps}
 use Rattle.lists.proofs.Maps.{map_below}
 use Rattle.model.specs.Searches.{is_data}
 use Rattle.model.specs.Tables.{no_space}
-use borrow.Author.Rules.{rules}
-use Rattle.withdrawing.proofs.Resetting.{spaces_reset}
 use Rattle.withdrawing.proofs.vacate.Given as goal
 
 abbrev pub invariant-loop-u : goal.invariant-loop-u

@@ -1,8 +1,7 @@
-use borrow.Author.Rules.{rules}
 use Rattle.lists.specs.Choice.{both}
 use Rattle.lists.specs.Places.{every, all_from}
 use Rattle.model.specs.Lines.{forms}
-use Rattle.writing.proofs.Remaining.{Putting, putting_start, putting_room, putting_takes, putting_fits, putting_more, putting_end}
+use Rattle.writing.proofs.Remaining.{putting_start, putting_room, putting_takes, putting_fits, putting_more, putting_end}
 use Rattle.writing.proofs.put_fields.Goals as goal
 
 pub loop-kinds-init : goal.loop-kinds-init

@@ -1,8 +1,4 @@
-use borrow.Author.Rules.{rules}
-use Rattle.lists.specs.Choice.{both}
-use Rattle.lists.specs.Places.{every, all_from}
-use Rattle.model.specs.Lines.{forms}
-use Rattle.writing.proofs.Remaining.{Putting, putting_start, putting_room, putting_takes, putting_fits, putting_more, putting_end}
+use Rattle.writing.proofs.Remaining.{Putting}
 use Rattle.writing.proofs.put_fields.Given as goal
 
 abbrev pub invariant-loop-kinds : goal.invariant-loop-kinds

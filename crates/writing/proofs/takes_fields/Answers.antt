@@ -1,9 +1,8 @@
-use borrow.Author.Rules.{rules}
 use borrow.Author.Tests.{not-true, not-false}
 use Rattle.lists.specs.Choice.{both}
 use Rattle.lists.specs.Places.{every, all_from}
 use Rattle.model.specs.Lines.{forms}
-use Rattle.writing.proofs.Remaining.{Taking, taking_start, taking_room, taking_stop, taking_more, taking_end}
+use Rattle.writing.proofs.Remaining.{taking_start, taking_room, taking_stop, taking_more, taking_end}
 use Rattle.writing.proofs.takes_fields.Goals as goal
 
 pub loop-kinds-init : goal.loop-kinds-init

@@ -1,9 +1,4 @@
-use borrow.Author.Rules.{rules}
-use borrow.Author.Tests.{not-true, not-false}
-use Rattle.lists.specs.Choice.{both}
-use Rattle.lists.specs.Places.{every, all_from}
-use Rattle.model.specs.Lines.{forms}
-use Rattle.writing.proofs.Remaining.{Taking, taking_start, taking_room, taking_stop, taking_more, taking_end}
+use Rattle.writing.proofs.Remaining.{Taking}
 use Rattle.writing.proofs.takes_fields.Given as goal
 
 abbrev pub invariant-loop-kinds : goal.invariant-loop-kinds

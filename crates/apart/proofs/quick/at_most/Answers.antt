@@ -1,6 +1,5 @@
 use Rattle.lists.proofs.Rules.{tests}
 use Rattle.apart.specs.Marks.{cut}
-use borrow.Author.Rules.{rules}
 use Rattle.apart.proofs.quick.at_most.Goals as goal
 
 pub returns-then-most-n : goal.returns-then-most-n

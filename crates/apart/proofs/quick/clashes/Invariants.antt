@@ -1,7 +1,6 @@
-use Prim.Native.Nat.{◌+◌, ◌-◌}
+use Prim.Native.Nat.{◌+◌}
 use Rattle.apart.specs.Warns.{ClearAt}
-use Rattle.apart.proofs.Warns.{Sum, sums}
-use borrow.Author.Rules.{rules}
+use Rattle.apart.proofs.Warns.{Sum}
 use Rattle.apart.proofs.quick.clashes.Given as goal
 
 abbrev pub invariant-loop-d : goal.invariant-loop-d

@@ -1,7 +1,4 @@
-use Prim.Native.Nat.{◌+◌, ◌-◌}
-use Rattle.apart.specs.Warns.{ClearIn}
-use Rattle.apart.proofs.Warns.{Sum, sums}
-use borrow.Author.Rules.{rules}
+use Rattle.apart.proofs.Warns.{sums}
 use Rattle.apart.proofs.quick.clashes_at.Goals as goal
 
 pub loop-u-init : goal.loop-u-init

@@ -1,6 +1,5 @@
 use Rattle.lists.proofs.Rules.{tests}
 use Rattle.apart.specs.Marks.{id_mark}
-use borrow.Author.Rules.{rules}
 use Rattle.apart.proofs.quick.id_mark.Goals as goal
 
 pub returns-then-x-eq0 : goal.returns-then-x-eq0

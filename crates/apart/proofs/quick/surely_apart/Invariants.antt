@@ -1,8 +1,5 @@
-use Prim.Native.Nat.{◌-◌}
 use Rattle.apart.specs.Rings.{ids_of, names_of, firsts_of, ends_of}
-use Rattle.apart.proofs.Rings.{Filling, ring_start, ring_go}
-use Rattle.apart.proofs.Whole.{none_apart}
-use borrow.Author.Rules.{rules}
+use Rattle.apart.proofs.Rings.{Filling}
 use Rattle.apart.proofs.quick.surely_apart.Given as goal
 
 abbrev pub invariant-loop-u : goal.invariant-loop-u

@@ -1,5 +1,5 @@
-use Rattle.std.proofs.Common.{◌-◌, arith, rules}
-use Rattle.fields.proofs.Decoding.{Decoded, decoded_none, decoded_first, decoded_second, decoded_turn, decoded_end}
+use Rattle.std.proofs.Common.{arith}
+use Rattle.fields.proofs.Decoding.{decoded_none, decoded_first, decoded_second, decoded_turn, decoded_end}
 use Rattle.fields.proofs.hexes.decode.Goals as goal
 
 pub loop-i-init : goal.loop-i-init

@@ -1,5 +1,5 @@
-use Rattle.std.proofs.Common.{◌-◌, arith, rules}
-use Rattle.fields.proofs.Decoding.{Decoded, decoded_none, decoded_first, decoded_second, decoded_turn, decoded_end}
+use Rattle.std.proofs.Common.{◌-◌}
+use Rattle.fields.proofs.Decoding.{Decoded}
 use Rattle.fields.proofs.hexes.decode.Given as goal
 
 abbrev pub invariant-loop-i : goal.invariant-loop-i

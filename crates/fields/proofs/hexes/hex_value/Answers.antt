@@ -1,5 +1,4 @@
 use Rattle.fields.proofs.Spelling.{value_is, value_small}
-use Rattle.std.proofs.Common.{rules}
 use Rattle.fields.proofs.hexes.hex_value.Goals as goal
 
 pub returns : goal.returns

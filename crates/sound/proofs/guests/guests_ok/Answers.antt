@@ -1,9 +1,7 @@
 use mathlib.Core.Bool.{not}
 use mathlib.Core.Path.{ap}
 use native.Mathlib.Omega.{arith}
-use Prim.Native.Nat.{◌-◌}
-use borrow.Author.Rules.{rules}
-use Rattle.sound.proofs.GuestLoop.{Guests, guests_start, guests_go, guests_stop, guests_done}
+use Rattle.sound.proofs.GuestLoop.{guests_start, guests_go, guests_stop, guests_done}
 use Rattle.sound.proofs.guests.guests_ok.Goals as goal
 
 pub loop-k-init : goal.loop-k-init

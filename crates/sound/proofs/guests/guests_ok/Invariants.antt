@@ -1,7 +1,4 @@
-use native.Mathlib.Omega.{arith}
-use Prim.Native.Nat.{◌-◌}
-use borrow.Author.Rules.{rules}
-use Rattle.sound.proofs.GuestLoop.{Guests, guests_start, guests_go, guests_stop, guests_done}
+use Rattle.sound.proofs.GuestLoop.{Guests}
 use Rattle.sound.proofs.guests.guests_ok.Given as goal
 
 abbrev pub invariant-loop-k : goal.invariant-loop-k

@@ -1,11 +1,7 @@
-use Prim.Native.Nat.{◌-◌}
 use borrow.Author.Rules.{rules}
-use Rattle.model.specs.SoundTest.{slot_test}
-use Rattle.model.specs.Tables.{space_at}
-use Rattle.sound.specs.Columns.{tag_at, slots_test}
-use Rattle.permitted.proofs.Tables.{Filling, fill_start, fills}
+use Rattle.permitted.proofs.Tables.{fill_start, fills}
 use Rattle.lists.proofs.Rules.{test_no, test_yes}
-use Rattle.lists.proofs.Loops.{Left, left_every, left_go}
+use Rattle.lists.proofs.Loops.{left_every, left_go}
 use Rattle.sound.proofs.SlotLoop.{slot_is, slots_stop, slots_done}
 use Rattle.sound.proofs.slots.slots_ok.Goals as goal
 
