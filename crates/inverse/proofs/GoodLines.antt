@@ -21,15 +21,15 @@ use Rattle.inverse.proofs.WritesBack.{writes_back}
 
 -- every line of an input is of its bytes, and has no newline
 record Line (l : List ℕ) : Type 0 where
-  all_bytes_lem : AllBytes l
+  all_bytes : AllBytes l
   newline_free : NoNewline l
 
 no_line : Line []
-no_line = record { all_bytes_lem = all_none IsByte; newline_free = all_none NotNewline }
+no_line = record { all_bytes = all_none IsByte; newline_free = all_none NotNewline }
 
 line_more : (l : List ℕ) (b : ℕ) → Line l → IsByte b → NotNewline b → Line (l ++ (b ∷ []))
 line_more l b r k n = record {
-  all_bytes_lem = all_append IsByte l (b ∷ []) r.all_bytes_lem (all_cons IsByte b [] k (all_none IsByte));
+  all_bytes = all_append IsByte l (b ∷ []) r.all_bytes (all_cons IsByte b [] k (all_none IsByte));
   newline_free = all_append NotNewline l (b ∷ []) r.newline_free (all_cons NotNewline b [] n (all_none NotNewline));
 }
 
@@ -49,7 +49,7 @@ unread_line l e = no! _ _ (rw e)
 read_line_lem : (l : List ℕ) → Line l → (read_line l ≡ NotRead → ⊥) → rewritten l ≡ l ++ bytes "\n"
 unfolding rewritten
 read_line_lem l r some =
-    let w = writes_back l r.all_bytes_lem r.newline_free some in
+    let w = writes_back l r.all_bytes r.newline_free some in
     yes! _ _ w.0 ∙ ap (λ x. x ++ bytes "\n") w.1
 
 line_good : (l : List ℕ) → Line l → rewritten l ≡ good_line l (read_line l)

@@ -45,14 +45,14 @@ abbrev pub Withdraws : (owner id : ℕ) → Deed → Type 0
 Withdraws o x d = ((g : ℕ) × (d ≡ isolated g x)) ⊎ (d ≡ reset o)
 
 -- "a PERMIT of that space to it by the owner, with at least the ADD's right, came before that ADD, with no ISOLATE of that
--- space and no RESET by the owner since that PERMIT". `later` is what was recorded since the ADD, `earlier` what before it;
+-- space and no RESET by the owner since that PERMIT". `after_add` is what was recorded since the ADD, `before_add` what before it;
 -- so "since that PERMIT" is from the PERMIT to the ADD (`since`) and from the ADD on (`since_add`).
-pub record PermittedBefore (later earlier : List Event) (owner guest id : ℕ) (asked : Right) : Type 0 where
+pub record PermittedBefore (after_add before_add : List Event) (owner guest id : ℕ) (asked : Right) : Type 0 where
   pub right : Right
-  pub did : Did earlier (permitted owner id guest right)
+  pub did : Did before_add (permitted owner id guest right)
   pub enough : AtLeast right asked
   pub since : Never (Withdraws owner id) did.later
-  pub since_add : Never (Withdraws owner id) later
+  pub since_add : Never (Withdraws owner id) after_add
 
 -- "Else it is that of the guest's last ADD with this token as value; for a store, that ADD was made with W; and the guest has
 -- made no REMOVE of the token and no RESET since. If the guest isn't the owner, a PERMIT .."
