@@ -6,14 +6,13 @@ use native.Mathlib.Omega.{arith}
 use native.Mathlib.Nat.{min-le_right}
 use borrow.Author.Tests.{eq-eqb, ne_eqb}
 use lib.IntN.{ℤ, pos, negsuc}
-use Rattle.io.specs.Counts.{clamp_len}
 use Rattle.lists.specs.Choice.{choose}
 use Rattle.lists.proofs.Choice.{true_false, yes!, no! }
 use Rattle.descriptors.specs.declared.Got.{Got}
 use Rattle.descriptors.specs.declared.Got.TheVariants as got
 use Rattle.descriptors.specs.declared.Moved.{Moved}
 use Rattle.descriptors.specs.declared.Moved.TheVariants as moved
-use Rattle.descriptors.specs.Came.{below_zero, error_of, got_of, moved_of, bytes_got, place_of}
+use Rattle.descriptors.specs.Came.{below_zero, count_of, error_of, got_of, moved_of, bytes_got, place_of}
 
 module _ (error : ℤ) (most : ℕ) where
   -- a call that failed
@@ -30,12 +29,12 @@ module _ (error : ℤ) (most : ℕ) where
 
   -- a call that moved bytes, or none
   module _ (count : ℕ) where
-    pub got_end : (answer : ℤ) → below_zero answer ≡ false → count ≡ clamp_len answer most → count ≡ 0 → got.End ≡ got_of answer error most
+    pub got_end : (answer : ℤ) → below_zero answer ≡ false → count ≡ count_of answer most → count ≡ 0 → got.End ≡ got_of answer error most
     unfolding below_zero got_of
     got_end (pos n) b k z = sym (yes! _ _ (eq-eqb _ _ (sym k ∙ z)))
     got_end (negsuc n) b k z = true_false refl b
 
-    pub got_bytes : (answer : ℤ) → below_zero answer ≡ false → count ≡ clamp_len answer most → (count ≡ 0 → ⊥) → got.Bytes count ≡ got_of answer error most
+    pub got_bytes : (answer : ℤ) → below_zero answer ≡ false → count ≡ count_of answer most → (count ≡ 0 → ⊥) → got.Bytes count ≡ got_of answer error most
     unfolding below_zero got_of
     got_bytes (pos n) b k z = ap got.Bytes k ∙ sym (no! _ _ (ne_eqb _ _ (λ q. z (k ∙ q))))
     got_bytes (negsuc n) b k z = true_false refl b
@@ -77,7 +76,7 @@ module _ (error : ℤ) (size at : ℕ) where
     moved_failed (pos n) b q = true_false b refl
     moved_failed (negsuc n) b q = ap moved.Failed shown ∙ sym (no! _ _ (ne_eqb _ _ (λ k. q (shown ∙ k))))
 
-  pub moved_to : (count most : ℕ) (answer : ℤ) → below_zero answer ≡ false → count ≡ clamp_len answer most → most ≡ size - at → moved.To (at + count) ≡ moved_of answer error size at
+  pub moved_to : (count most : ℕ) (answer : ℤ) → below_zero answer ≡ false → count ≡ count_of answer most → most ≡ size - at → moved.To (at + count) ≡ moved_of answer error size at
   unfolding below_zero moved_of
   moved_to count most (pos n) b k m = ap (λ (x : ℕ). moved.To (at + x)) (k ∙ ap (min n) m)
   moved_to count most (negsuc n) b k m = true_false refl b

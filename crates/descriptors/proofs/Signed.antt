@@ -11,9 +11,8 @@ use mir.Syntax.{w32, w64}
 use mir.Val.{Fits, SFits, to_z, of_z}
 use mir.ValLaws.{to_z-of_z}
 use native.Mathlib.Nat.{lt_of_le_of_lt}
-use Rattle.io.specs.Counts.{clamp_len}
 use Rattle.lists.proofs.Choice.{true_false}
-use Rattle.descriptors.specs.Came.{below_zero, error_of}
+use Rattle.descriptors.specs.Came.{below_zero, count_of, error_of}
 
 below : (z : ℤ) → lt_z z (pos 0) ≡ below_zero z
 unfolding below_zero
@@ -55,5 +54,5 @@ failed_so {z} f e y = sym (ap below_zero (to_z-of_z w64 z f)) ∙ (sym e ∙ y)
 pub shown_so : {z : ℤ} {n : ℕ} → SFits w32 z → n ≡ error_of (to_z w32 (of_z w32 z)) → n ≡ error_of z
 shown_so {z} f e = e ∙ ap error_of (to_z-of_z w32 z f)
 
-pub counted_so : (most : ℕ) {z : ℤ} {n : ℕ} → SFits w64 z → n ≡ clamp_len (to_z w64 (of_z w64 z)) most → n ≡ clamp_len z most
-counted_so most {z} f e = e ∙ ap (λ (y : ℤ). clamp_len y most) (to_z-of_z w64 z f)
+pub counted_so : (most : ℕ) {z : ℤ} {n : ℕ} → SFits w64 z → n ≡ count_of (to_z w64 (of_z w64 z)) most → n ≡ count_of z most
+counted_so most {z} f e = e ∙ ap (λ (y : ℤ). count_of y most) (to_z-of_z w64 z f)

@@ -13,6 +13,11 @@ unfoldable pub below_zero : (answer : ℤ) → Bool
 below_zero (pos n) = false
 below_zero (negsuc n) = true
 
+-- how many bytes an answer counts, of at most so many
+abbrev pub count_of : (answer : ℤ) → (most : ℕ) → ℕ
+count_of (pos n) most = min n most
+count_of (negsuc n) most = 0
+
 -- the number of an error; the system's are above 0
 unfoldable pub error_of : ℤ → ℕ
 error_of (pos e) = e

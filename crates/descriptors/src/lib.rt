@@ -1,10 +1,13 @@
-// Reads and writes of a descriptor, and what each came to. All that is decided between two calls of the system is decided by a
-// function whose promise is exact; what a call reads or writes no promise can say.
+// Reads and writes, and what each came to. All that is decided between two calls of the system is decided by a function whose
+// promise is exact; what a call reads or writes no promise can say.
 #![tactic(auto)]
 
 ghost use Rattle.std.specs.Prelude.{◌≤◌, ◌≡◌, eqb, length};
 ghost use Rattle.lists.specs.Places.{one_if};
-ghost use Rattle.descriptors.specs.Came.{below_zero, error_of, got_of, moved_of, interrupted, bytes_got, place_of, failure_of, newlines};
+ghost use Rattle.descriptors.specs.Came.{below_zero, count_of, error_of, got_of, moved_of, interrupted, bytes_got, place_of, failure_of, newlines};
+
+use std::io;
+use std::io::{ErrorKind, Read, Write};
 
 // What a read came to.
 #[derive(Clone, Copy)]
@@ -45,6 +48,16 @@ fn error_of(error: i32) -> u32
     0
 }
 
+// The bytes that an answer counts, at most as many as there are.
+fn count(answer: isize, bytes: &[u8]) -> usize
+    ensures { result ≡ count_of answer (length bytes.now) }
+{
+    if answer < 0 {
+        return 0;
+    }
+    (answer as usize).min(bytes.len())
+}
+
 // The meaning of what a read into `room` answered, where `error` is the error's number after it.
 pub fn read_came(answer: isize, error: i32, room: &[u8]) -> Got
     ensures { result ≡ got_of answer error (length room.now) }
@@ -56,7 +69,7 @@ pub fn read_came(answer: isize, error: i32, room: &[u8]) -> Got
         }
         return Got::Failed { error: e };
     }
-    let n = io::count(answer, room);
+    let n = count(answer, room);
     if n == 0 {
         return Got::End;
     }
@@ -75,16 +88,33 @@ pub fn write_came(answer: isize, error: i32, bytes: &[u8], at: usize) -> Moved
         }
         return Moved::Failed { error: e };
     }
-    let n = io::count(answer, &bytes[at..]);
+    let n = count(answer, &bytes[at..]);
     Moved::To { place: at + n }
 }
 
+// The number of the system's error. Another error has none, and counts as the system's where it says that it was interrupted.
+fn number_of(error: &io::Error) -> i32 {
+    match error.raw_os_error() {
+        Some(number) => number,
+        None => number_of_kind(error.kind()),
+    }
+}
+
+fn number_of_kind(kind: ErrorKind) -> i32 {
+    if kind == ErrorKind::Interrupted {
+        return 4;
+    }
+    0
+}
+
 // One read.
-fn read_once(fd: i32, room: &mut [u8]) -> Got
+fn read_once<R: Read>(from: &mut R, room: &mut [u8]) -> Got
     ensures { bytes_got result ≤ length room.old }
 {
-    let answer = libc::read(fd, room);
-    read_came(answer, os::errno(), room)
+    match from.read(room) {
+        Ok(n) => read_came(n as isize, 0, room),
+        Err(error) => read_came(-1, number_of(&error), room),
+    }
 }
 
 // Whether a read is made again.
@@ -99,27 +129,30 @@ fn is_interrupted(got: Got) -> bool
     }
 }
 
-// Reads some bytes. A read that was interrupted is made again. A proved loop has to end, so this one and the next count down from
-// a number that no run uses up.
-pub fn read_some(fd: i32, room: &mut [u8]) -> Got
+// Reads some bytes. A read that was interrupted is made again. A proved loop has to end, so this one and the next count their turns,
+// up to a number that no run reaches.
+pub fn read_some<R: Read>(from: &mut R, room: &mut [u8]) -> Got
     ensures { bytes_got result ≤ length room.old }
 {
-    let mut tries = u64::MAX;
-    let mut last = read_once(fd, room);
-    while tries > 0 && is_interrupted(last) {
-        last = read_once(fd, room);
-        tries -= 1;
+    let mut last = read_once(from, room);
+    for _ in 0..u64::MAX {
+        if !is_interrupted(last) {
+            return last;
+        }
+        last = read_once(from, room);
     }
     last
 }
 
 // One write, of the bytes from `at` on.
-fn write_once(fd: i32, bytes: &[u8], at: usize) -> Moved
+fn write_once<W: Write>(to: &mut W, bytes: &[u8], at: usize) -> Moved
     requires { at ≤ length bytes.now }
     ensures { place_of at result ≤ length bytes.now }
 {
-    let answer = libc::write(fd, &bytes[at..]);
-    write_came(answer, os::errno(), bytes, at)
+    match to.write(&bytes[at..]) {
+        Ok(n) => write_came(n as isize, 0, bytes, at),
+        Err(error) => write_came(-1, number_of(&error), bytes, at),
+    }
 }
 
 fn error_in(moved: Moved) -> u32
@@ -132,21 +165,22 @@ fn error_in(moved: Moved) -> u32
 }
 
 // Writes all of the bytes: a write that moved a part, or none, goes on from where it stopped. Only a failure ends it before.
-pub fn send(fd: i32, bytes: &[u8]) -> Sent
+pub fn send<W: Write>(to: &mut W, bytes: &[u8]) -> Sent
     ensures { result.count ≤ length bytes.now }
 {
     let mut at: usize = 0;
-    let mut tries = u64::MAX;
-    while at < bytes.len() && tries > 0 {
-        let m = write_once(fd, bytes, at);
-        let Moved::To { place } = m else {
+    for _ in 0..u64::MAX {
+        if at == bytes.len() {
+            break;
+        }
+        let moved = write_once(to, bytes, at);
+        let Moved::To { place } = moved else {
             return Sent {
                 count: at,
-                error: error_in(m),
+                error: error_in(moved),
             };
         };
         at = place;
-        tries -= 1;
     }
     Sent {
         count: at,
