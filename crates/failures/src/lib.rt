@@ -7,6 +7,7 @@ ghost use Rattle.digits.specs.Wrote.{Wrote};
 ghost use Rattle.failures.specs.Message.{kind_text, failure_text, place_text, message_text};
 
 use relay::{Ending, How};
+use std::io::Write;
 
 fn put_text(out: &mut [u8], at: usize, text: &[u8]) -> usize
     requires { at + length text.now ≤ length out.old }
@@ -70,23 +71,31 @@ fn put_message(
     put_place(out, at, first, last, line)
 }
 
-// One line on standard error.
-fn complain(name: &[u8], first: &[u8], last: &[u8], reading: bool, error: u32, line: u64)
+// One line.
+fn complain<W: Write>(
+    to: &mut W,
+    name: &[u8],
+    first: &[u8],
+    last: &[u8],
+    reading: bool,
+    error: u32,
+    line: u64,
+)
     requires { (length name.now + length first.now ≤ 50) × (length name.now + length last.now ≤ 50) }
 {
     let mut text = [0u8; 128];
     let n = put_message(&mut text, name, first, last, reading, error, line);
-    descriptors::send(libc::STDERR_FILENO, &text[0..n]);
+    descriptors::send(to, &text[0..n]);
 }
 
 // How the work ended, where that was not the end of the input.
-pub fn tell(end: Ending, name: &[u8], first: &[u8], last: &[u8])
+pub fn tell<W: Write>(to: &mut W, end: Ending, name: &[u8], first: &[u8], last: &[u8])
     requires { (length name.now + length first.now ≤ 50) × (length name.now + length last.now ≤ 50) }
 {
     let how = end.how;
     match how {
         How::Answered => {}
-        How::ReadingFailed { error } => complain(name, first, last, true, error, end.line),
-        How::WritingFailed { error } => complain(name, first, last, false, error, end.line),
+        How::ReadingFailed { error } => complain(to, name, first, last, true, error, end.line),
+        How::WritingFailed { error } => complain(to, name, first, last, false, error, end.line),
     }
 }

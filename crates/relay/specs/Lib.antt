@@ -1,3 +1,3 @@
--- What became of work on lines from one descriptor to another.
+-- What became of work on lines from a reader to a writer.
 pub mod Spoken
 pub mod Ran

@@ -1,4 +1,4 @@
--- How work on lines from one descriptor to another goes on and ends. The bytes that were read are some `input`, of which its length
+-- How work on lines from a reader to a writer goes on and ends. The bytes that were read are some `input`, of which its length
 -- is told; the bytes that were written are the first `count` of what is said to them.
 use Rattle.std.specs.Prelude.{◌≡◌, ℕ, ◌+◌, ◌<◌, ◌≤◌, false, List, [], length, take}
 use Rattle.descriptors.specs.declared.Got.{Got}

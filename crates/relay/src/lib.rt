@@ -1,4 +1,4 @@
-// Work on lines from one descriptor to another: a session, or lines written again. What is decided between two calls of the system
+// Work on lines from a reader to a writer: a session, or lines written again. What is decided between two calls of the system
 // has a promise, and so has the whole: which bytes were read and written no promise can say, but how many, and that the work went
 // over all of them.
 #![tactic(auto)]
@@ -10,6 +10,7 @@ ghost use Rattle.relay.specs.Spoken.{replied_to, Spoken};
 ghost use Rattle.relay.specs.Ran.{PartTo, PieceTo, Ran, Stops, RunTo, RewroteTo};
 
 use descriptors::Got;
+use std::io::{Read, Write};
 use works::Work;
 
 // How the work ended: it was done to the end of the input, or a read or a write failed with the error of that number.
@@ -57,17 +58,17 @@ struct Piece {
 fn replied(line: u64, text: &[u8]) -> u64
     ensures { result ≡ replied_to line text.now }
 {
-    let before = std::num::wrapping_add_u64(line, u64::MAX);
-    std::num::wrapping_add_u64(before, descriptors::newlines_in(text) as u64)
+    let before = line.wrapping_add(u64::MAX);
+    before.wrapping_add(descriptors::newlines_in(text) as u64)
 }
 
 // The text is written. `line` is the first line that is answered in it.
-fn say(to: i32, text: &[u8], line: u64, written: u64) -> Said
+fn say<W: Write>(to: &mut W, text: &[u8], line: u64, written: u64) -> Said
     ensures { Spoken text.now line written result.failed result.line result.written }
 {
     let sent = descriptors::send(to, text);
     let n = sent.count;
-    let w = std::num::wrapping_add_u64(written, n as u64);
+    let w = written.wrapping_add(n as u64);
     if n < text.len() {
         return Said {
             failed: true,
@@ -85,8 +86,8 @@ fn say(to: i32, text: &[u8], line: u64, written: u64) -> Said
 }
 
 // One feed, and the replies to it.
-fn answer_part(
-    to: i32,
+fn answer_part<W: Write>(
+    to: &mut W,
     work: Work,
     held: &mut [u8; 601],
     scratch: &mut [u8],
@@ -111,8 +112,8 @@ fn answer_part(
 }
 
 // The bytes of one read: they are fed, and the replies written, as often as the replies fill the room for them.
-fn answer_piece(
-    to: i32,
+fn answer_piece<W: Write>(
+    to: &mut W,
     work: Work,
     held: &mut [u8; 601],
     scratch: &mut [u8],
@@ -151,8 +152,8 @@ fn answer_piece(
 }
 
 // The end of the input: a last line without a newline ends too.
-fn answer_end(
-    to: i32,
+fn answer_end<W: Write>(
+    to: &mut W,
     work: Work,
     held: &[u8; 601],
     scratch: &mut [u8],
@@ -197,8 +198,8 @@ fn leave(error: u32, line: u64, taken: u64, written: u64) -> Ending
 }
 
 // A read that brought no bytes: it was at the end of the input, or it failed.
-fn answer_stop(
-    to: i32,
+fn answer_stop<W: Write>(
+    to: &mut W,
     got: Got,
     work: Work,
     held: &[u8; 601],
@@ -221,10 +222,10 @@ fn answer_stop(
     }
 }
 
-// Reads to the end of the input. A proved loop has to end, so this one counts its reads down, from a number that no run uses up.
-fn answer_input(
-    from: i32,
-    to: i32,
+// Reads to the end of the input. A proved loop has to end, so this one counts its reads, up to a number that no run reaches.
+fn answer_input<R: Read, W: Write>(
+    from: &mut R,
+    to: &mut W,
     work: Work,
     held: &mut [u8; 601],
     scratch: &mut [u8],
@@ -237,14 +238,13 @@ fn answer_input(
     let mut doing = work;
     let mut taken = 0u64;
     let mut w = 0u64;
-    let mut reads = u64::MAX;
-    while reads > 0 {
+    for _ in 0..u64::MAX {
         let got = descriptors::read_some(from, input);
         let Got::Bytes { count } = got else {
             return answer_stop(to, got, doing, held, scratch, out, taken, w);
         };
         let piece = answer_piece(to, doing, held, scratch, &input[0..count], out, w);
-        taken = std::num::wrapping_add_u64(taken, count as u64);
+        taken = taken.wrapping_add(count as u64);
         let said = piece.said;
         if said.failed {
             return Ending {
@@ -256,18 +256,22 @@ fn answer_input(
         }
         doing = piece.work;
         w = said.written;
-        reads -= 1;
     }
     answer_stop(to, Got::Interrupted, doing, held, scratch, out, taken, w)
 }
 
 // A whole session: a header and the replies go to `to`, for the requests that come from `from`. One read brings at most as many
 // bytes as `room` has. The memory that it takes is the same however long the input is.
-pub fn run(from: i32, to: i32, scratch: &mut [u8; 32768], room: &mut [u8]) -> Ending
+pub fn run<R: Read, W: Write>(
+    from: &mut R,
+    to: &mut W,
+    scratch: &mut [u8; 32768],
+    room: &mut [u8],
+) -> Ending
     ensures { RunTo (new_feed scratch.old) result.how result.line result.taken result.written scratch.new }
 {
     let mut held = [0u8; 601];
-    let mut out = io::large_buffer();
+    let mut out = [0u8; 65536];
     let n = replies::put_header(&mut out);
     let head = descriptors::send(to, &out[0..n]);
     if head.count < n {
@@ -287,12 +291,12 @@ pub fn run(from: i32, to: i32, scratch: &mut [u8; 32768], room: &mut [u8]) -> En
 
 // Lines written again: of those that come from `from`, every one that the reader takes goes to `to` as the writer writes it. There
 // is no header.
-pub fn rewrite(from: i32, to: i32, room: &mut [u8]) -> Ending
+pub fn rewrite<R: Read, W: Write>(from: &mut R, to: &mut W, room: &mut [u8]) -> Ending
     ensures { RewroteTo result.how result.line result.taken result.written }
 {
     let mut held = [0u8; 601];
     let mut scratch = [0u8; 0];
-    let mut out = io::large_buffer();
+    let mut out = [0u8; 65536];
     let work = Work {
         rewrites: true,
         session: driver::open(),

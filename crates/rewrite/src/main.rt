@@ -3,18 +3,27 @@
 // the same however long the input is.
 #![tactic(auto)]
 
-fn serve() {
-    let mut room = io::large_buffer();
-    let end = relay::rewrite(libc::STDIN_FILENO, libc::STDOUT_FILENO, &mut room);
-    failures::tell(end, b"rewrite", b"the first output line", b"output line ");
+fn serve(rt: &HostRuntime) {
+    let mut room = [0u8; 65536];
+    let end = relay::rewrite(&mut rt.stdin(), &mut rt.stdout(), &mut room);
+    failures::tell(
+        &mut rt.stderr(),
+        end,
+        b"rewrite",
+        b"the first output line",
+        b"output line ",
+    );
 }
 
-fn main() {
-    if arguments::are_none() {
-        serve();
+fn main(rt: HostRuntime) {
+    if arguments::are_none(&rt) {
+        serve(&rt);
         return;
     }
     arguments::answer(
+        &rt,
+        &mut rt.stdout(),
+        &mut rt.stderr(),
         b"rewrite < LINES > LINES\n\nOf the lines of a session (see session --help) those that are of the right form, each written anew, and no others.\nA read or a write that fails is told on standard error.\n",
         b"rewrite --help",
         b"rewrite: takes no argument but --help; lines come from standard input\n",
