@@ -8,6 +8,7 @@ mod calls;
 mod sums;
 
 use model::{Caller, Right, Settings, State};
+use std::rt::Env;
 
 fn enrolled(s: State, scratch: &mut [u8], guest: u32, settings: Settings) -> State {
     let r = spaces::enrol(s, scratch, Caller { guest: guest }, settings);
@@ -52,25 +53,23 @@ fn shared() -> State {
 }
 
 // The program's arguments say what is broken, in order.
-fn line(s: State, k: u32) {
-    let mut text = io::buffer();
-    let n = os::arg(k as usize + 1, &mut text);
-    io::write_all(1, &text[..n]);
-    io::write_all(1, b":");
-    calls::all(altered::state(s, k), altered::room(k));
+fn line(rt: &(impl Env + Print), s: State, k: u32) {
+    let mut text = [0u8; 4096];
+    let n = rt.arg(k as usize + 1, &mut text).unwrap_or(0);
+    calls::say(rt, &text[..n]);
+    calls::say(rt, b":");
+    calls::all(rt, altered::state(s, k), altered::room(k));
 }
 
-fn each_line(s: State) {
-    let mut k: u32 = 0;
-    while k < altered::COUNT {
-        line(s, k);
-        k += 1;
+fn each_line(rt: &(impl Env + Print), s: State) {
+    for k in 0..altered::COUNT {
+        line(rt, s, k);
     }
 }
 
-fn main() {
+fn main(rt: HostRuntime) {
     let s = shared();
-    io::write_all(1, b"sound:");
-    calls::all(s, 32768);
-    each_line(s);
+    calls::say(&rt, b"sound:");
+    calls::all(&rt, s, 32768);
+    each_line(&rt, s);
 }

@@ -7,57 +7,65 @@
 // of the frames before the first tilde were kept. Scratch first holds 165 in every byte. A line that is no request is a heading.
 #![tactic(auto)]
 
+ghost use Rattle.std.specs.Prelude.{◌≤◌, length, IfSome};
+
 use model::{Answer, Call, Cell, Operation, Reply, Request, State};
+use std::env::FillError;
+use std::rt::Env;
 
-fn print(n: u32) {
-    io::write_all(1, b" ");
-    io::print_decimal(1, n as u64);
+// A write that fails is passed over: whoever compares the output sees what is missing.
+fn say(rt: &impl Print, text: &[u8]) {
+    let _ = rt.write_all(text);
 }
 
-fn print_byte(b: u8) {
-    print(b as u32);
+fn print(rt: &impl Print, n: u32) {
+    let _ = print!(rt; " {n}");
 }
 
-fn told_answer(a: Answer) {
-    io::write_all(1, b":");
-    print(spaces::number(a));
-    print(spaces::value(a));
+fn print_byte(rt: &impl Print, b: u8) {
+    print(rt, b as u32);
 }
 
-fn told_buffer(buffer: &[u8]) {
+fn told_answer(rt: &impl Print, a: Answer) {
+    say(rt, b":");
+    print(rt, spaces::number(a));
+    print(rt, spaces::value(a));
+}
+
+fn told_buffer(rt: &impl Print, buffer: &[u8]) {
     if buffer.len() == 0 {
         return;
     }
-    io::write_all(1, b", bytes");
-    print_byte(buffer[0]);
-    print_byte(buffer[buffer.len() - 1]);
+    say(rt, b", bytes");
+    print_byte(rt, buffer[0]);
+    print_byte(rt, buffer[buffer.len() - 1]);
 }
 
-fn told_cell(f: u32, c: Cell) {
+fn told_cell(rt: &impl Print, f: u32, c: Cell) {
     if c.key == 0 {
         if !c.mark {
             return;
         }
     }
-    io::write_all(1, b" |");
-    print(f);
-    print(c.key as u32);
-    print(c.mark as u32);
+    say(rt, b" |");
+    print(rt, f);
+    print(rt, c.key as u32);
+    print(rt, c.mark as u32);
 }
 
-fn told_cells(s: State) {
+fn told_cells(rt: &impl Print, s: State) {
     for f in 0..512u32 {
-        told_cell(f, s.cells[f as usize]);
+        told_cell(rt, f, s.cells[f as usize]);
     }
 }
 
 // What became of the bytes of one frame: 0 kept, 1 made zeros, 2 made others.
 fn change(before: &[u8], after: &[u8]) -> u8 {
-    if check::same(before, after) {
+    if before == after {
         return 0;
     }
     let zeros = [0u8; 4096];
-    if check::same(after, &zeros) {
+    if after == zeros.as_slice() {
         return 1;
     }
     2
@@ -78,31 +86,31 @@ fn change_of_frame(before: &[u8], after: &[u8], f: u32) -> u8 {
     change(&before[start..end], &after[start..end])
 }
 
-fn told_change(f: u32, last: u8, new: u8) {
+fn told_change(rt: &impl Print, f: u32, last: u8, new: u8) {
     if new == last {
         return;
     }
-    io::write_all(1, b" ~");
-    print(f);
+    say(rt, b" ~");
+    print(rt, f);
     if new == 0 {
-        io::write_all(1, b" kept");
+        say(rt, b" kept");
         return;
     }
     if new == 1 {
-        io::write_all(1, b" zeros");
+        say(rt, b" zeros");
         return;
     }
-    io::write_all(1, b" others");
+    say(rt, b" others");
 }
 
-fn told_frames(before: &[u8], after: &[u8]) {
+fn told_frames(rt: &impl Print, before: &[u8], after: &[u8]) {
     let mut last = 0u8;
     for f in 0..512u32 {
         let new = change_of_frame(before, after, f);
-        told_change(f, last, new);
+        told_change(rt, f, last, new);
         last = new;
     }
-    io::write_all(1, b"\n");
+    say(rt, b"\n");
 }
 
 fn answered(a: Answer, s: State) -> Reply {
@@ -151,6 +159,7 @@ fn reply(s: State, scratch: &mut [u8], call: Call, buffer: &mut [u8], own: bool)
 
 // The state's own part of scratch is lent, and as much of `bytes` as the request is long: no line here asks for more.
 fn carried_out(
+    rt: &impl Print,
     s: State,
     scratch: &mut [u8],
     call: Call,
@@ -168,27 +177,27 @@ fn carried_out(
     }
     let r = reply(s, &mut scratch[0..size], call, &mut bytes[0..n], own);
     let a = r.answer;
-    told_answer(a);
-    told_buffer(&bytes[0..n]);
-    told_cells(r.state);
+    told_answer(rt, a);
+    told_buffer(rt, &bytes[0..n]);
+    told_cells(rt, r.state);
     r.state
 }
 
-fn begun(frames: u32) -> State {
+fn begun(rt: &impl Print, frames: u32) -> State {
     let r = spaces::fresh(frames);
     let a = r.answer;
-    told_answer(a);
-    told_cells(r.state);
+    told_answer(rt, a);
+    told_cells(rt, r.state);
     r.state
 }
 
 // Two headings alter the tables: nothing else leads there, or not in a run that is short enough.
 fn altered(mut s: State, heading: &[u8]) -> State {
-    if check::same(heading, b"next identification 65535") {
+    if heading == b"next identification 65535".as_slice() {
         s.next = 65535;
         return s;
     }
-    if check::same(heading, b"the first space in frame 1") {
+    if heading == b"the first space in frame 1".as_slice() {
         s.spaces[0].first = 1;
         return s;
     }
@@ -197,6 +206,7 @@ fn altered(mut s: State, heading: &[u8]) -> State {
 
 // The length of `bytes` is known from its type.
 fn asked(
+    rt: &impl Print,
     s: State,
     scratch: &mut [u8],
     request: Request,
@@ -205,43 +215,54 @@ fn asked(
     own: bool,
 ) -> State {
     match request {
-        Request::Frames { frames } => begun(frames),
-        Request::Call { call, length } => carried_out(s, scratch, call, length, bytes, own),
+        Request::Frames { frames } => begun(rt, frames),
+        Request::Call { call, length } => carried_out(rt, s, scratch, call, length, bytes, own),
         Request::NotRead => altered(s, heading),
     }
 }
 
 // One line, and what it did to each frame: scratch as it was before stands beside it, so that this takes 4 MB of stack.
-fn line(s: State, scratch: &mut [u8; 2097152], i: usize, own: bool) -> State {
+fn line(rt: &impl Print, s: State, scratch: &mut [u8; 2097152], text: &[u8], own: bool) -> State {
     let before = *scratch;
-    let mut text = io::buffer();
     let mut bytes = [170u8; 257];
-    let n = os::arg(i, &mut text);
-    io::write_all(1, &text[..n]);
-    let request = lines::read_line(&text[..n], &mut bytes);
-    let t = asked(s, scratch, request, &mut bytes, &text[..n], own);
-    told_frames(&before, scratch);
+    say(rt, text);
+    let request = lines::read_line(text, &mut bytes);
+    let t = asked(rt, s, scratch, request, &mut bytes, text, own);
+    told_frames(rt, &before, scratch);
     t
 }
 
-fn each_line(scratch: &mut [u8; 2097152], own: bool) {
-    let count = os::arg_count();
-    let mut s = spaces::fresh(0).state;
-    let mut i: usize = 1;
-    while i < count {
-        s = line(s, scratch, i, own);
-        i += 1;
+// Puts the argument of that place at the start of the text and tells its length: 0 where it is too long, and nothing where there is
+// none.
+fn argument(rt: &impl Env, place: usize, text: &mut [u8]) -> Option<usize>
+    ensures { IfSome result (λ n. n ≤ length text.new) }
+{
+    match rt.arg(place, text) {
+        Ok(n) => Some(n),
+        Err(FillError::TooLong) => Some(0),
+        Err(FillError::NotPresent) => None,
     }
 }
 
-fn run(own: bool) {
-    let mut scratch = [165u8; 2097152];
-    each_line(&mut scratch, own);
+fn each_line(rt: &(impl Env + Print), scratch: &mut [u8; 2097152], own: bool) {
+    let mut text = [0u8; 4096];
+    let mut s = spaces::fresh(0).state;
+    for i in 1..usize::MAX {
+        let Some(n) = argument(rt, i, &mut text) else {
+            break;
+        };
+        s = line(rt, s, scratch, &text[..n], own);
+    }
 }
 
-fn main() {
-    io::write_all(1, b"== by serve\n");
-    run(false);
-    io::write_all(1, b"== by their own functions\n");
-    run(true);
+fn run(rt: &(impl Env + Print), own: bool) {
+    let mut scratch = [165u8; 2097152];
+    each_line(rt, &mut scratch, own);
+}
+
+fn main(rt: HostRuntime) {
+    say(&rt, b"== by serve\n");
+    run(&rt, false);
+    say(&rt, b"== by their own functions\n");
+    run(&rt, true);
 }
