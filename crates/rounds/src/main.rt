@@ -18,6 +18,8 @@ mod setup;
 mod turn;
 
 use model::State;
+use std::env::FillError;
+use std::rt::Env;
 
 fn digit(v: u32, b: u8) -> u32 {
     if b < 48 {
@@ -39,10 +41,19 @@ fn decimal(text: &[u8]) -> u32 {
     v
 }
 
+// Whether there is an argument at that place.
+fn is_given(rt: &impl Env, k: usize) -> bool {
+    match rt.arg(k, &mut []) {
+        Ok(_) => true,
+        Err(FillError::TooLong) => true,
+        Err(FillError::NotPresent) => false,
+    }
+}
+
 // An argument that is a number; 0 where it is missing.
-fn argument(k: usize) -> u32 {
+fn argument(rt: &impl Env, k: usize) -> u32 {
     let mut text = [0u8; 16];
-    let n = os::arg(k, &mut text);
+    let n = rt.arg(k, &mut text).unwrap_or(0);
     decimal(&text[..n])
 }
 
@@ -85,47 +96,50 @@ fn least(size: u32, most: usize) -> usize
     n
 }
 
-fn put(n: u64, end: &[u8]) {
-    io::print_decimal(1, n);
-    io::write_all(1, end);
-}
-
-fn run(scratch: &mut [u8], buffer: &mut [u8], call: u32, layer: u32, size: u32, n: u32, keys: u32) {
+fn run(
+    rt: &impl Print,
+    scratch: &mut [u8],
+    buffer: &mut [u8],
+    call: u32,
+    layer: u32,
+    size: u32,
+    n: u32,
+    keys: u32,
+) {
     let s = tables(scratch, call, keys);
     let m = least(size, buffer.len());
     let sum = rounds(s, scratch, &mut buffer[0..m], call, layer, size, n);
-    put(call as u64, b" ");
-    put(layer as u64, b" ");
-    put(keys as u64, b" ");
-    put(sum, b"\n");
+    // A write that fails is passed over: whoever compares the output sees what is missing.
+    let _ = println!(rt; "{call} {layer} {keys} {sum}");
 }
 
 // A few rounds of each call in both layers, with 16 pages or bytes, without keys and with them.
-fn run_all(scratch: &mut [u8], buffer: &mut [u8]) {
+fn run_all(rt: &impl Print, scratch: &mut [u8], buffer: &mut [u8]) {
     for k in 0..68u32 {
-        run(scratch, buffer, k / 4 + 1, k % 2, 16, 24, k / 2 % 2);
+        run(rt, scratch, buffer, k / 4 + 1, k % 2, 16, 24, k / 2 % 2);
     }
 }
 
 // The scratch of 512 frames goes by its type, from which its length is known.
-fn start(scratch: &mut [u8; 2097152], buffer: &mut [u8; 256]) {
-    if os::arg_count() < 5 {
-        run_all(scratch, buffer);
+fn start(rt: &(impl Env + Print), scratch: &mut [u8; 2097152], buffer: &mut [u8; 256]) {
+    if !is_given(rt, 4) {
+        run_all(rt, scratch, buffer);
         return;
     }
     run(
+        rt,
         scratch,
         buffer,
-        argument(1),
-        argument(2),
-        argument(3),
-        argument(4),
-        argument(5),
+        argument(rt, 1),
+        argument(rt, 2),
+        argument(rt, 3),
+        argument(rt, 4),
+        argument(rt, 5),
     );
 }
 
-fn main() {
+fn main(rt: HostRuntime) {
     let mut scratch = [0u8; 2097152];
     let mut buffer = [9u8; 256];
-    start(&mut scratch, &mut buffer);
+    start(&rt, &mut scratch, &mut buffer);
 }

@@ -1,5 +1,11 @@
 // From a file to a file, by the loop that the programs use, in reads of 4,096 bytes: a session, and lines written again.
+ghost use Rattle.std.specs.Prelude.{◌≤◌, length};
+
+use descriptors::Got;
 use relay::{Ending, How};
+use std::fs;
+use std::io::Read;
+use std::rt::Files;
 
 // All of the input was read, and after a header of so many bytes so many were written in all.
 fn is_whole(end: Ending, size: usize, header: u64, said: usize) -> bool {
@@ -10,56 +16,67 @@ fn is_whole(end: Ending, size: usize, header: u64, said: usize) -> bool {
     if end.taken != size as u64 {
         return false;
     }
-    std::num::wrapping_add_u64(end.written, header) == said as u64
+    end.written.wrapping_add(header) == said as u64
 }
 
-fn holds(path: &[u8], want: &[u8]) -> bool {
-    let fd = os::open_read(path);
-    if fd < 0 {
-        return false;
+// Reads until the room is full, the input ends or a read fails; how many bytes it brought.
+pub(crate) fn read_full<R: Read>(from: &mut R, room: &mut [u8]) -> usize
+    ensures { result ≤ length room.new }
+{
+    let mut at: usize = 0;
+    for _ in 0..u64::MAX {
+        if at == room.len() {
+            break;
+        }
+        let Got::Bytes { count } = descriptors::read_some(from, &mut room[at..]) else {
+            break;
+        };
+        at += count;
     }
-    let mut text = io::large_buffer();
-    let n = io::read_full(fd, &mut text);
-    libc::close(fd);
-    check::same(&text[..n], want)
+    at
 }
 
-pub(crate) fn is_same(path: &[u8], size: usize, want: &[u8]) -> bool {
-    let from = os::open_read(path);
-    if from < 0 {
+fn holds(rt: &impl Files, path: &str, want: &[u8]) -> bool {
+    let Ok(mut file) = fs::open(rt, path) else {
         return false;
-    }
-    let to = os::open_overwrite(b"replies");
-    if to < 0 {
+    };
+    let mut text = [0u8; 65536];
+    let n = read_full(&mut file, &mut text);
+    &text[..n] == want
+}
+
+pub(crate) fn is_same(rt: &impl Files, path: &str, size: usize, want: &[u8]) -> bool {
+    let Ok(mut from) = fs::open(rt, path) else {
         return false;
-    }
+    };
+    let Ok(mut to) = fs::create(rt, "replies") else {
+        return false;
+    };
     let mut scratch = [165u8; 32768];
-    let mut room = io::buffer();
-    let end = relay::run(from, to, &mut scratch, &mut room);
-    libc::close(from);
-    libc::close(to);
+    let mut room = [0u8; 4096];
+    let end = relay::run(&mut from, &mut to, &mut scratch, &mut room);
+    drop(from);
+    drop(to);
     if !is_whole(end, size, 18, want.len()) {
         return false;
     }
-    holds(b"replies", want)
+    holds(rt, "replies", want)
 }
 
 // Whether the lines of a file, written again, are the wanted ones.
-pub(crate) fn is_rewritten(path: &[u8], size: usize, want: &[u8]) -> bool {
-    let from = os::open_read(path);
-    if from < 0 {
+pub(crate) fn is_rewritten(rt: &impl Files, path: &str, size: usize, want: &[u8]) -> bool {
+    let Ok(mut from) = fs::open(rt, path) else {
         return false;
-    }
-    let to = os::open_overwrite(b"again");
-    if to < 0 {
+    };
+    let Ok(mut to) = fs::create(rt, "again") else {
         return false;
-    }
-    let mut room = io::buffer();
-    let end = relay::rewrite(from, to, &mut room);
-    libc::close(from);
-    libc::close(to);
+    };
+    let mut room = [0u8; 4096];
+    let end = relay::rewrite(&mut from, &mut to, &mut room);
+    drop(from);
+    drop(to);
     if !is_whole(end, size, 0, want.len()) {
         return false;
     }
-    holds(b"again", want)
+    holds(rt, "again", want)
 }

@@ -7,133 +7,149 @@ mod files;
 mod good;
 mod runs;
 
-ghost use Rattle.std.specs.Prelude.{◌≤◌, length};
+ghost use Rattle.std.specs.Prelude.{◌≤◌, length, IfSome};
 
-use libc::STDOUT_FILENO;
+use std::env::FillError;
+use std::fs;
+use std::rt::{Env, Files};
 
-fn say(text: &[u8]) {
-    io::write_all(STDOUT_FILENO, text);
+// A write that fails is passed over: whoever compares the output sees what is missing.
+fn say(rt: &impl Print, text: &[u8]) {
+    let _ = rt.write_all(text);
 }
 
-fn say_number(n: usize) {
-    io::print_decimal(STDOUT_FILENO, n as u64);
+fn say_number(rt: &impl Print, n: usize) {
+    let _ = rt.print(n);
 }
 
 // The input in two pieces, cut at every place; a long one at every 101st.
-fn compare_cuts(input: &[u8], want: &[u8]) {
+fn compare_cuts(rt: &impl Print, input: &[u8], want: &[u8]) {
     let step = runs::cut_step(input.len());
     let bad = runs::first_bad_cut(input, step, want);
     if bad <= input.len() {
-        say(b"DIFFERS at cut ");
-        say_number(bad);
-        say(b"\n");
+        say(rt, b"DIFFERS at cut ");
+        say_number(rt, bad);
+        say(rt, b"\n");
         return;
     }
-    say(b"same at ");
-    say_number(runs::cut_count(input.len()));
-    say(b" cuts\n");
+    say(rt, b"same at ");
+    say_number(rt, runs::cut_count(input.len()));
+    say(rt, b" cuts\n");
 }
 
-fn compare_bytes(input: &[u8], want: &[u8]) {
+fn compare_bytes(rt: &impl Print, input: &[u8], want: &[u8]) {
     if !runs::is_same_by_bytes(input, want) {
-        say(b"DIFFERS byte by byte\n");
+        say(rt, b"DIFFERS byte by byte\n");
         return;
     }
-    say(b"same byte by byte\n");
+    say(rt, b"same byte by byte\n");
 }
 
 // Less room for replies, which are taken away whenever it is full.
-fn compare_rooms(input: &[u8], want: &[u8]) {
+fn compare_rooms(rt: &impl Print, input: &[u8], want: &[u8]) {
     let bad = runs::first_bad_room(input, want);
     if bad <= 1300 {
-        say(b"DIFFERS in a room of ");
-        say_number(bad);
-        say(b"\n");
+        say(rt, b"DIFFERS in a room of ");
+        say_number(rt, bad);
+        say(rt, b"\n");
         return;
     }
-    say(b"same in 8 rooms\n");
+    say(rt, b"same in 8 rooms\n");
 }
 
 // From the file to a file, which is read back.
-fn compare_files(path: &[u8], input: &[u8], want: &[u8]) {
-    if !files::is_same(path, input.len(), want) {
-        say(b"DIFFERS from file to file\n");
+fn compare_files(rt: &(impl Files + Print), path: &str, input: &[u8], want: &[u8]) {
+    if !files::is_same(rt, path, input.len(), want) {
+        say(rt, b"DIFFERS from file to file\n");
         return;
     }
-    say(b"same from file to file\n");
+    say(rt, b"same from file to file\n");
 }
 
-fn compare_lines(path: &[u8], size: usize, want: &[u8]) {
-    if !files::is_rewritten(path, size, want) {
-        say(b"DIFFER, the good lines written again\n");
+fn compare_lines(rt: &(impl Files + Print), path: &str, size: usize, want: &[u8]) {
+    if !files::is_rewritten(rt, path, size, want) {
+        say(rt, b"DIFFER, the good lines written again\n");
         return;
     }
-    say_number(descriptors::newlines_in(want));
-    say(b" good lines, the same written again\n");
+    say_number(rt, descriptors::newlines_in(want));
+    say(rt, b" good lines, the same written again\n");
 }
 
-fn compare_again(path: &[u8], input: &[u8]) {
-    let mut text = io::large_buffer();
+fn compare_again(rt: &(impl Files + Print), path: &str, input: &[u8]) {
+    let mut text = [0u8; 65536];
     let n = good::good_lines(input, &mut text);
-    compare_lines(path, input.len(), &text[0..n]);
+    compare_lines(rt, path, input.len(), &text[0..n]);
 }
 
-fn compare(path: &[u8], input: &[u8], want: &[u8]) {
-    compare_cuts(input, want);
-    compare_bytes(input, want);
-    compare_rooms(input, want);
-    compare_files(path, input, want);
-    compare_again(path, input);
+fn compare(rt: &(impl Files + Print), path: &str, input: &[u8], want: &[u8]) {
+    compare_cuts(rt, input, want);
+    compare_bytes(rt, input, want);
+    compare_rooms(rt, input, want);
+    compare_files(rt, path, input, want);
+    compare_again(rt, path, input);
 }
 
 // The text of the session is the first `n` bytes.
-fn show_text(path: &[u8], input: &[u8], text: &[u8], n: usize)
+fn show_text(rt: &(impl Files + Print), path: &str, input: &[u8], text: &[u8], n: usize)
     requires { n ≤ length text.now }
 {
     if n == text.len() {
-        say(b"too long\n");
+        say(rt, b"too long\n");
         return;
     }
-    say(&text[0..n]);
-    compare(path, input, &text[0..n]);
+    say(rt, &text[0..n]);
+    compare(rt, path, input, &text[0..n]);
 }
 
-fn show_session(path: &[u8], input: &[u8]) {
-    let mut text = io::large_buffer();
+fn show_session(rt: &(impl Files + Print), path: &str, input: &[u8]) {
+    let mut text = [0u8; 65536];
     let n = runs::run_whole(input, &mut text);
-    show_text(path, input, &text, n);
+    show_text(rt, path, input, &text, n);
 }
 
-fn show_file(path: &[u8]) {
-    say(b"== ");
-    say(path);
-    say(b"\n");
-    let fd = os::open_read(path);
-    if fd < 0 {
-        say(b"no such file\n");
+fn show_input(rt: &(impl Files + Print), path: &str) {
+    let Ok(mut file) = fs::open(rt, path) else {
+        say(rt, b"no such file\n");
         return;
-    }
-    let mut input = io::large_buffer();
-    let n = io::read_full(fd, &mut input);
-    libc::close(fd);
+    };
+    let mut input = [0u8; 65536];
+    let n = files::read_full(&mut file, &mut input);
+    drop(file);
     if n >= input.len() {
-        say(b"too long\n");
+        say(rt, b"too long\n");
         return;
     }
-    show_session(path, &input[..n]);
+    show_session(rt, path, &input[..n]);
 }
 
-fn show_argument(i: usize) {
-    let mut path = io::buffer();
-    let n = os::arg(i, &mut path);
-    show_file(&path[..n]);
+fn show_file(rt: &(impl Files + Print), path: &[u8]) {
+    say(rt, b"== ");
+    say(rt, path);
+    say(rt, b"\n");
+    match std::str::from_utf8(path) {
+        Ok(name) => show_input(rt, name),
+        Err(_) => say(rt, b"no such file\n"),
+    }
 }
 
-fn main() {
-    let count = os::arg_count();
-    let mut i: usize = 1;
-    while i < count {
-        show_argument(i);
-        i += 1;
+// Puts the argument of that place at the start of the text and tells its length: 0 where it is too long, and nothing where there is
+// none.
+fn argument(rt: &impl Env, place: usize, text: &mut [u8]) -> Option<usize>
+    ensures { IfSome result (λ n. n ≤ length text.new) }
+{
+    match rt.arg(place, text) {
+        Ok(n) => Some(n),
+        Err(FillError::TooLong) => Some(0),
+        Err(FillError::NotPresent) => None,
+    }
+}
+
+fn main(rt: HostRuntime) {
+    let mut path = [0u8; 4096];
+    for i in 1..usize::MAX {
+        let Some(n) = argument(&rt, i, &mut path) else {
+            break;
+        };
+        show_file(&rt, &path[..n]);
     }
 }

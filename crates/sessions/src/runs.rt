@@ -139,7 +139,7 @@ pub(crate) fn run_whole(input: &[u8], text: &mut [u8]) -> usize
     requires { 18 ≤ length text.old }
     ensures { result ≤ length text.old }
 {
-    let mut room = io::large_buffer();
+    let mut room = [0u8; 65536];
     run_cut(input, 0, &mut room, text)
 }
 
@@ -164,7 +164,7 @@ fn is_same_cut(input: &[u8], cut: usize, want: &[u8], room: &mut [u8], text: &mu
     requires { (cut ≤ length input.now) × (600 ≤ length room.old) × (18 ≤ length text.old) }
 {
     let n = run_cut(input, cut, room, text);
-    check::same(&text[0..n], want)
+    &text[0..n] == want
 }
 
 // The first place, by steps, at which a cut makes the output another; above the length where there is none.
@@ -184,16 +184,16 @@ fn bad_cut_from(input: &[u8], step: usize, want: &[u8], room: &mut [u8], text: &
 pub(crate) fn first_bad_cut(input: &[u8], step: usize, want: &[u8]) -> usize
     requires { (0 < step) × (step ≤ 101) }
 {
-    let mut room = io::large_buffer();
-    let mut text = io::large_buffer();
+    let mut room = [0u8; 65536];
+    let mut text = [0u8; 65536];
     bad_cut_from(input, step, want, &mut room, &mut text)
 }
 
 pub(crate) fn is_same_by_bytes(input: &[u8], want: &[u8]) -> bool {
     let mut room = [0u8; 600];
-    let mut text = io::large_buffer();
+    let mut text = [0u8; 65536];
     let n = run_bytes(input, &mut room, &mut text);
-    check::same(&text[0..n], want)
+    &text[0..n] == want
 }
 
 fn is_same_in_room(input: &[u8], want: &[u8], size: usize, text: &mut [u8]) -> bool
@@ -218,6 +218,6 @@ fn bad_room_from(input: &[u8], want: &[u8], text: &mut [u8]) -> usize
 }
 
 pub(crate) fn first_bad_room(input: &[u8], want: &[u8]) -> usize {
-    let mut text = io::large_buffer();
+    let mut text = [0u8; 65536];
     bad_room_from(input, want, &mut text)
 }
