@@ -1,6 +1,6 @@
 // The sound state, as it is and with one thing altered: most alterations break one clause of soundness alone, and some, beside
 // one that does, are sound. The program's arguments say what they are, in order.
-use crate::calls;
+use crate::trials;
 use model::{BASE, Cell, Entry, Grant, Permit, Right, Standing, State};
 
 pub const COUNT: u32 = 50;
@@ -37,7 +37,7 @@ fn dead_space(mut s: State, k: u32) -> State {
     let mut x = s.spaces[3];
     match k {
         12 => x.owner = 1,
-        13 => x.name = calls::TEMP,
+        13 => x.name = trials::TEMP,
         14 => x.first = 5,
         _ => x.pages = 1,
     }
@@ -51,7 +51,7 @@ fn enrolled_guest(mut s: State, k: u32) -> State {
     let mut x = s.spaces[0];
     let mut c = s.cpus[1];
     match k {
-        16 => x.name = calls::WORK,
+        16 => x.name = trials::WORK,
         17 => g.allowance = 0,
         18 => g.allowance = 32,
         19 => g.list = 0,

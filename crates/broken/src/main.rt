@@ -4,8 +4,8 @@
 #![tactic(auto)]
 
 mod altered;
-mod calls;
 mod sums;
+mod trials;
 
 use model::{Caller, Right, Settings, State};
 use std::rt::Env;
@@ -46,7 +46,7 @@ fn shared() -> State {
             asf: 0,
         },
     );
-    let c = spaces::create(b, &mut scratch, one, calls::TEMP, 1);
+    let c = spaces::create(b, &mut scratch, one, trials::TEMP, 1);
     let d = spaces::permit(c.state, &scratch, one, 3, 2, Right::Read);
     let e = spaces::add(d.state, &scratch, two, 3, Right::Read);
     e.state
@@ -56,9 +56,9 @@ fn shared() -> State {
 fn line(rt: &(impl Env + Print), s: State, k: u32) {
     let mut text = [0u8; 4096];
     let n = rt.arg(k as usize + 1, &mut text).unwrap_or(0);
-    calls::say(rt, &text[..n]);
-    calls::say(rt, b":");
-    calls::all(rt, altered::state(s, k), altered::room(k));
+    trials::say(rt, &text[..n]);
+    trials::say(rt, b":");
+    trials::all(rt, altered::state(s, k), altered::room(k));
 }
 
 fn each_line(rt: &(impl Env + Print), s: State) {
@@ -69,7 +69,7 @@ fn each_line(rt: &(impl Env + Print), s: State) {
 
 fn main(rt: HostRuntime) {
     let s = shared();
-    calls::say(&rt, b"sound:");
-    calls::all(&rt, s, 32768);
+    trials::say(&rt, b"sound:");
+    trials::all(&rt, s, 32768);
     each_line(&rt, s);
 }

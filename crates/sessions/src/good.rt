@@ -1,7 +1,7 @@
 // The good lines of an input, each with a newline: what the program that writes lines again makes of it.
 ghost use Rattle.std.specs.Prelude.{◌≤◌, length};
 
-use crate::runs;
+use crate::pieces;
 use model::Request;
 
 fn is_good(line: &[u8]) -> bool {
@@ -18,8 +18,8 @@ fn append_good(text: &mut [u8], at: usize, line: &[u8]) -> usize
     ensures { result ≤ length text.old }
 {
     if is_good(line) {
-        let end = runs::append(text, at, line);
-        return runs::append(text, end, b"\n");
+        let end = pieces::append(text, at, line);
+        return pieces::append(text, end, b"\n");
     }
     at
 }

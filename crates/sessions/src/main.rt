@@ -5,7 +5,7 @@
 
 mod files;
 mod good;
-mod runs;
+mod pieces;
 
 ghost use Rattle.std.specs.Prelude.{◌≤◌, length, IfSome};
 
@@ -24,8 +24,8 @@ fn say_number(rt: &impl Print, n: usize) {
 
 // The input in two pieces, cut at every place; a long one at every 101st.
 fn compare_cuts(rt: &impl Print, input: &[u8], want: &[u8]) {
-    let step = runs::cut_step(input.len());
-    let bad = runs::first_bad_cut(input, step, want);
+    let step = pieces::cut_step(input.len());
+    let bad = pieces::first_bad_cut(input, step, want);
     if bad <= input.len() {
         say(rt, b"DIFFERS at cut ");
         say_number(rt, bad);
@@ -33,12 +33,12 @@ fn compare_cuts(rt: &impl Print, input: &[u8], want: &[u8]) {
         return;
     }
     say(rt, b"same at ");
-    say_number(rt, runs::cut_count(input.len()));
+    say_number(rt, pieces::cut_count(input.len()));
     say(rt, b" cuts\n");
 }
 
 fn compare_bytes(rt: &impl Print, input: &[u8], want: &[u8]) {
-    if !runs::is_same_by_bytes(input, want) {
+    if !pieces::is_same_by_bytes(input, want) {
         say(rt, b"DIFFERS byte by byte\n");
         return;
     }
@@ -47,7 +47,7 @@ fn compare_bytes(rt: &impl Print, input: &[u8], want: &[u8]) {
 
 // Less room for replies, which are taken away whenever it is full.
 fn compare_rooms(rt: &impl Print, input: &[u8], want: &[u8]) {
-    let bad = runs::first_bad_room(input, want);
+    let bad = pieces::first_bad_room(input, want);
     if bad <= 1300 {
         say(rt, b"DIFFERS in a room of ");
         say_number(rt, bad);
@@ -103,7 +103,7 @@ fn show_text(rt: &(impl Files + Print), path: &str, input: &[u8], text: &[u8], n
 
 fn show_session(rt: &(impl Files + Print), path: &str, input: &[u8]) {
     let mut text = [0u8; 65536];
-    let n = runs::run_whole(input, &mut text);
+    let n = pieces::run_whole(input, &mut text);
     show_text(rt, path, input, &text, n);
 }
 
