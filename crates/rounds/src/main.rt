@@ -33,10 +33,8 @@ fn digit(v: u32, b: u8) -> u32 {
 
 fn decimal(text: &[u8]) -> u32 {
     let mut v = 0u32;
-    let mut k = 0;
-    while k < text.len() {
-        v = digit(v, text[k]);
-        k += 1;
+    for b in text {
+        v = digit(v, *b);
     }
     v
 }
