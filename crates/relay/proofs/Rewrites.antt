@@ -1,5 +1,5 @@
 -- A line that is written again has one newline, its last byte; what is not written has none. Assumes nothing.
-use Rattle.std.proofs.Common.{◌≡◌, ℕ, suc, ◌+◌, true, false, eqb, List, [], ◌∷◌, ◌++◌, refl, ap, ◌∙◌, arith}
+use Rattle.std.proofs.Common.{◌≡◌, ℕ, suc, true, false, eqb, List, [], ◌∷◌, ◌++◌, refl, ap, ◌∙◌, arith}
 use Rattle.lists.specs.Places.{one_if}
 use Rattle.lists.proofs.Choice.{yes!, no! }
 use Rattle.lists.proofs.Counting.{one_no}
