@@ -1,0 +1,9 @@
+use Rattle.std.specs.Prelude.{◌≡◌, ◌-◌, ◌≤◌, length}
+use Rattle.sessions.proofs.pieces.feed_piece.Given as goal
+
+abbrev pub invariant-loop-from : goal.invariant-loop-from
+invariant-loop-from l =
+    (600 ≤ length l.room) × (length l.room ≡ length l.initial.room) × (length l.scratch ≡ length l.initial.scratch) × (length l.text ≡ length l.initial.text) × (l.at ≤ length l.text) × (l.from ≤ length l.input)
+
+abbrev pub decreases-loop-from : goal.decreases-loop-from
+decreases-loop-from l = length l.input - l.from
