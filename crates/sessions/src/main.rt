@@ -144,12 +144,22 @@ fn argument(rt: &impl Env, place: usize, text: &mut [u8]) -> Option<usize>
     }
 }
 
-fn main(rt: HostRuntime) {
+// Shows the file that an argument names. Whether there is an argument at that place.
+fn show_argument(rt: &(impl Env + Files + Print), i: usize) -> bool {
     let mut path = [0u8; 4096];
+    match argument(rt, i, &mut path) {
+        Some(n) => {
+            show_file(rt, &path[..n]);
+            true
+        }
+        None => false,
+    }
+}
+
+fn main(rt: HostRuntime) {
     for i in 1..usize::MAX {
-        let Some(n) = argument(&rt, i, &mut path) else {
+        if !show_argument(&rt, i) {
             break;
-        };
-        show_file(&rt, &path[..n]);
+        }
     }
 }
