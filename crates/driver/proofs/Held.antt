@@ -1,5 +1,5 @@
 -- A session that holds as many bytes of a line as are held is the same. Assumes nothing.
-use Rattle.std.proofs.Common.{◌≡◌, ℕ, ◌-◌, List, length, take, ap, subst, arith, length-take}
+use Rattle.std.proofs.Common.{◌≡◌, ℕ, List, length, take, ap, subst, arith, length-take}
 use Rattle.lists.proofs.Parts.{take_least}
 use Rattle.feeds.specs.Feed.{Feed, with_held}
 use Rattle.feeds.specs.Fed.{FedTo}

@@ -1,6 +1,6 @@
 -- Of the bytes lent the writer looks at those that a STORE writes. So it writes a request that was read with the buffer that the
 -- reader filled as it does with the data of the line. Assumes nothing.
-use Rattle.std.proofs.Common.{◌≡◌, ℕ, ◌+◌, ◌≤◌, Bool, true, false, ltb, leb, List, ◌++◌, length, take, replicate, sym, refl, ap, ◌∙◌, arith, take_all, take_at, le-leb}
+use Rattle.std.proofs.Common.{◌≡◌, ℕ, ◌≤◌, Bool, true, false, ltb, leb, List, ◌++◌, length, take, replicate, sym, refl, ap, ◌∙◌, arith, take_all, take_at, le-leb}
 use lib.ListN.{length-replicate}
 use Rattle.lists.specs.Bytes.{over}
 use Rattle.lists.specs.Choice.{both}

@@ -1,7 +1,7 @@
 -- The buffer that the reader has filled for a request, and the part of it that a call has. Assumes nothing.
 use Prim.Native.Nat.{ℕ, min, ◌-◌, ◌≤◌}
 use mathlib.Core.Bool.{Bool, true, false}
-use mathlib.Core.List.{List, [], ◌∷◌}
+use mathlib.Core.List.{List, []}
 use mathlib.Core.Path.{◌≡◌, refl, subst, sym, ap, ◌∙◌}
 use native.Mathlib.Nat.{sub-zero}
 use native.Mathlib.Omega.{arith}

@@ -1,4 +1,3 @@
-use Rattle.std.proofs.Common.{rules}
 use Rattle.driver.proofs.Held.{kept_fed}
 use Rattle.driver.proofs.feed.Goals as goal
 

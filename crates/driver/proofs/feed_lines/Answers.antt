@@ -7,7 +7,7 @@ use Rattle.digits.specs.Wrote.{Wrote}
 use Rattle.closing.proofs.Withdrawn.{isolated_by}
 use Rattle.edits.specs.Edits.{change_of}
 use Rattle.edits.proofs.Kept.{entry_inside, cpu_inside, register_inside, mode_inside, key_inside, cell_inside}
-use Rattle.feeds.specs.Feed.{answers, Feed, whole_line}
+use Rattle.feeds.specs.Feed.{answers, whole_line}
 use Rattle.feeds.specs.Fed.{Starts, Going}
 use Rattle.feeds.proofs.Feeding.{going_start, line_starts}
 use Rattle.turns.specs.declared.Here.{Here}
@@ -16,7 +16,7 @@ use Rattle.turns.specs.declared.Outcome.{Outcome}
 use Rattle.turns.specs.Taken.{session_of, outcome_of, Taken}
 use Rattle.turns.specs.Told.{Sees}
 use Rattle.views.proofs.Seen.{view_read}
-use Rattle.driver.proofs.Stepped.{sees_read, read_prepared, line_edits, line_edited, line_closes, line_closed, line_changed}
+use Rattle.driver.proofs.Stepped.{sees_read, read_prepared, line_edits, line_edited, line_closed, line_changed}
 use Rattle.driver.proofs.Stopped.{stop_part}
 use Rattle.driver.proofs.Turned.{feed_at, turned, stored_taken}
 use Rattle.driver.proofs.feed_lines.Lts as lts

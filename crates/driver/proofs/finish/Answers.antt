@@ -1,4 +1,4 @@
-use Rattle.std.proofs.Common.{arith, rules}
+use Rattle.std.proofs.Common.{arith}
 use Rattle.driver.proofs.Ending.{finish_full, finish_none, finish_line}
 use Rattle.driver.proofs.finish.Goals as goal
 

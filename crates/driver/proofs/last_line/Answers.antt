@@ -1,6 +1,5 @@
 use Rattle.feeds.proofs.Ending.{copied}
 use Rattle.driver.proofs.Ending.{last_said, last_scratch}
-use Rattle.std.proofs.Common.{rules}
 use Rattle.driver.proofs.last_line.Goals as goal
 
 pub returns : goal.returns

@@ -1,5 +1,4 @@
 use Rattle.rewriting.proofs.Ending.{kept_fed}
-use Rattle.std.proofs.Common.{rules}
 use Rattle.rewriting.proofs.feed.Goals as goal
 
 pub returns : goal.returns

@@ -1,7 +1,6 @@
-use Rattle.std.proofs.Common.{◌≡◌, ◌-◌, ◌<◌, ◌≤◌, length, refl, inl, arith, rules}
+use Rattle.std.proofs.Common.{◌≡◌, ◌-◌, ◌≤◌, length}
 use Rattle.feeds.specs.Fed.{Starts}
-use Rattle.feeds.proofs.Feeding.{going_start, fed_full, fed_whole, line_starts}
-use Rattle.rewriting.proofs.Turned.{Came, turned, held_part}
+use Rattle.rewriting.proofs.Turned.{Came}
 use Rattle.rewriting.proofs.feed_lines.Given as goal
 
 abbrev pub invariant-loop-i : goal.invariant-loop-i

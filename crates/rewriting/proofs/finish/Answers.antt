@@ -1,4 +1,4 @@
-use Rattle.std.proofs.Common.{arith, rules}
+use Rattle.std.proofs.Common.{arith}
 use Rattle.feeds.specs.Fed.{full}
 use Rattle.rewriting.proofs.Ending.{finish_none, finish_line}
 use Rattle.rewriting.proofs.finish.Goals as goal

@@ -1,4 +1,4 @@
-use Rattle.std.proofs.Common.{[], rules}
+use Rattle.std.proofs.Common.{[]}
 use Rattle.model.specs.Session.{new_session}
 use Rattle.feeds.proofs.Ending.{copied}
 use Rattle.rewriting.proofs.Ending.{last_said}

@@ -1,5 +1,4 @@
 use Rattle.rewriting.proofs.Turned.{stays, raised}
-use Rattle.std.proofs.Common.{rules}
 use Rattle.rewriting.proofs.next_number.Goals as goal
 
 pub returns-then-next-at : goal.returns-then-next-at

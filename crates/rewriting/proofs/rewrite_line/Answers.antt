@@ -1,4 +1,4 @@
-use Rattle.std.proofs.Common.{sym, ◌∙◌, arith, rules}
+use Rattle.std.proofs.Common.{sym, ◌∙◌, arith}
 use Rattle.rewriting.proofs.Lent.{filled_long}
 use Rattle.rewriting.proofs.Answers.{line_few, line_written, line_refused}
 use Rattle.rewriting.proofs.rewrite_line.Goals as goal

@@ -1,6 +1,5 @@
 use Rattle.turns.proofs.Filled.{part_within}
 use Rattle.turns.proofs.Seen.{seeing_room, seeing_run, unread_told, early_told, unready_told, made_answered, closes_answered, call_waits, frames_wait}
-use borrow.Author.Rules.{rules}
 use Rattle.turns.proofs.answer.Goals as goal
 
 pub returns-then-not-here : goal.returns-then-not-here

@@ -1,6 +1,5 @@
 use native.Mathlib.Omega.{arith}
 use Rattle.turns.proofs.Filled.{length-fetch, length-store, length_none, length_most}
-use borrow.Author.Rules.{rules}
 use Rattle.turns.proofs.buffer_length.Goals as goal
 
 pub returns-in-Fetch : goal.returns-in-Fetch

@@ -1,5 +1,4 @@
 use Rattle.turns.proofs.Changing.{waits_room, waits_sound, waits_part, waits_asks, carried}
-use borrow.Author.Rules.{rules}
 use Rattle.turns.proofs.carry.Goals as goal
 
 pub slice_bounds-serve_whole-end : goal.slice_bounds-serve_whole-end

@@ -1,5 +1,4 @@
 use Rattle.turns.proofs.Changing.{waits_here, known_changed, unread_changed}
-use borrow.Author.Rules.{rules}
 use Rattle.turns.proofs.change.Goals as goal
 
 pub carry-requires : goal.carry-requires

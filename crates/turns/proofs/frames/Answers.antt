@@ -1,5 +1,4 @@
 use Rattle.turns.proofs.Changing.{frames_again, frames_out, frames_done}
-use borrow.Author.Rules.{rules}
 use Rattle.turns.proofs.frames.Goals as goal
 
 pub returns-then-h : goal.returns-then-h

@@ -1,6 +1,5 @@
 use Rattle.deciding.proofs.Decided.{whole_reset}
 use Rattle.deciding.proofs.Served.{cleared_as}
-use borrow.Author.Rules.{rules}
 use Rattle.turns.proofs.serve_whole.Goals as goal
 
 pub returns-in-Enrol : goal.returns-in-Enrol

@@ -1,5 +1,4 @@
 use Rattle.turns.proofs.Filled.{tell_moved}
-use borrow.Author.Rules.{rules}
 use Rattle.turns.proofs.tell.Goals as goal
 
 pub returns : goal.returns

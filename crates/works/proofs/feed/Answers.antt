@@ -1,6 +1,5 @@
 use Rattle.works.specs.Fed.{feed_by}
 use Rattle.works.proofs.Standing.{fed_answering, fed_rewriting}
-use borrow.Author.Rules.{rules}
 use Rattle.works.proofs.feed.Goals as goal
 
 pub returns-then-work : goal.returns-then-work

@@ -1,6 +1,5 @@
 use Rattle.works.specs.Fed.{feed_by}
 use Rattle.works.proofs.Standing.{end_answering, end_rewriting}
-use borrow.Author.Rules.{rules}
 use Rattle.works.proofs.finish.Goals as goal
 
 pub returns-then-work : goal.returns-then-work
