@@ -2,7 +2,8 @@
 // promise is exact; what a call reads or writes no promise can say.
 #![tactic(auto)]
 
-ghost use Rattle.std.specs.Prelude.{◌≤◌, ◌≡◌, eqb, length};
+ghost use Rattle.std.specs.Prelude.{◌≤◌, ◌≡◌, ◌≢◌, eqb, length, pos, negsuc, IfSome, IfOk, IfErr};
+ghost use Rattle.std.specs.IoError.{raw_os_error};
 ghost use Rattle.lists.specs.Places.{one_if};
 ghost use Rattle.descriptors.specs.Came.{below_zero, count_of, error_of, got_of, moved_of, interrupted, bytes_got, place_of, failure_of, newlines};
 
@@ -93,28 +94,44 @@ pub fn write_came(answer: isize, error: i32, bytes: &[u8], at: usize) -> Moved
 }
 
 // The number of the system's error. Another error has none, and counts as the system's where it says that it was interrupted.
-fn number_of(error: &io::Error) -> i32 {
+fn number_of(error: &io::Error) -> i32
+    ensures { IfSome (raw_os_error error.now) (λ n. result ≡ n) }
+{
     match error.raw_os_error() {
         Some(number) => number,
         None => number_of_kind(error.kind()),
     }
 }
 
-fn number_of_kind(kind: ErrorKind) -> i32 {
+fn number_of_kind(kind: ErrorKind) -> i32
+    ensures interrupted { kind ≡ ErrorKind.Interrupted → result ≡ pos 4 }
+    ensures other { kind ≢ ErrorKind.Interrupted → result ≡ pos 0 }
+{
     if kind == ErrorKind::Interrupted {
         return 4;
     }
     0
 }
 
+// What std answers to a read, as the system said it: a count, or -1 and the error's number.
+fn read_answered(answer: io::Result<usize>, room: &[u8]) -> Got
+    requires { IfOk answer (λ n. n ≤ length room.now) }
+    ensures counted { IfOk answer (λ n. result ≡ got_of (pos n) (pos 0) (length room.now)) }
+    ensures failed { IfErr answer (λ e. IfSome (raw_os_error e) (λ n. result ≡ got_of (negsuc 0) n (length room.now))) }
+    ensures within { bytes_got result ≤ length room.now }
+{
+    match answer {
+        Ok(n) => read_came(n as isize, 0, room),
+        Err(error) => read_came(-1, number_of(&error), room),
+    }
+}
+
 // One read.
 fn read_once<R: Read>(from: &mut R, room: &mut [u8]) -> Got
     ensures { bytes_got result ≤ length room.old }
 {
-    match from.read(room) {
-        Ok(n) => read_came(n as isize, 0, room),
-        Err(error) => read_came(-1, number_of(&error), room),
-    }
+    let answer = from.read(room);
+    read_answered(answer, room)
 }
 
 // Whether a read is made again.
@@ -144,15 +161,27 @@ pub fn read_some<R: Read>(from: &mut R, room: &mut [u8]) -> Got
     last
 }
 
+// The same of a write of the bytes from `at` on.
+fn write_answered(answer: io::Result<usize>, bytes: &[u8], at: usize) -> Moved
+    requires at_inside { at ≤ length bytes.now }
+    requires no_more { IfOk answer (λ n. n ≤ length bytes.now) }
+    ensures counted { IfOk answer (λ n. result ≡ moved_of (pos n) (pos 0) (length bytes.now) at) }
+    ensures failed { IfErr answer (λ e. IfSome (raw_os_error e) (λ n. result ≡ moved_of (negsuc 0) n (length bytes.now) at)) }
+    ensures within { place_of at result ≤ length bytes.now }
+{
+    match answer {
+        Ok(n) => write_came(n as isize, 0, bytes, at),
+        Err(error) => write_came(-1, number_of(&error), bytes, at),
+    }
+}
+
 // One write, of the bytes from `at` on.
 fn write_once<W: Write>(to: &mut W, bytes: &[u8], at: usize) -> Moved
     requires { at ≤ length bytes.now }
     ensures { place_of at result ≤ length bytes.now }
 {
-    match to.write(&bytes[at..]) {
-        Ok(n) => write_came(n as isize, 0, bytes, at),
-        Err(error) => write_came(-1, number_of(&error), bytes, at),
-    }
+    let answer = to.write(&bytes[at..]);
+    write_answered(answer, bytes, at)
 }
 
 fn error_in(moved: Moved) -> u32

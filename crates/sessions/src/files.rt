@@ -1,7 +1,6 @@
 // From a file to a file, by the loop that the programs use, in reads of 4,096 bytes: a session, and lines written again.
 ghost use Rattle.std.specs.Prelude.{◌≤◌, length};
 
-use descriptors::Got;
 use relay::{Ending, How};
 use std::fs;
 use std::io::Read;
@@ -19,7 +18,7 @@ fn is_whole(end: Ending, size: usize, header: u64, said: usize) -> bool {
     end.written.wrapping_add(header) == said as u64
 }
 
-// Reads until the room is full, the input ends or a read fails; how many bytes it brought.
+// Reads until the room is full, the input ends or a read fails; how many bytes it brought. It goes by no code that is tested here.
 pub(crate) fn read_full<R: Read>(from: &mut R, room: &mut [u8]) -> usize
     ensures { result ≤ length room.new }
 {
@@ -28,9 +27,12 @@ pub(crate) fn read_full<R: Read>(from: &mut R, room: &mut [u8]) -> usize
         if at == room.len() {
             break;
         }
-        let Got::Bytes { count } = descriptors::read_some(from, &mut room[at..]) else {
+        let Ok(count) = from.read(&mut room[at..]) else {
             break;
         };
+        if count == 0 {
+            break;
+        }
         at += count;
     }
     at
