@@ -1,3 +1,4 @@
+-- The loop has made the frames of the run below f blank.
 use Prim.Native.Nat.{◌+◌, ◌≤◌}
 use Rattle.model.specs.Tables.{no_cell}
 use Rattle.closing.proofs.Ranges.{Ranged}

@@ -1,3 +1,4 @@
+-- The loop has taken the permits of the slot below place k.
 use Prim.Native.Nat.{◌+◌, ◌*◌, ◌≤◌}
 use Rattle.model.specs.Tables.{no_permit}
 use Rattle.closing.proofs.Ranges.{Ranged}

@@ -1,3 +1,4 @@
+-- A number with a sign that is passed on is read back from its bits (Signed).
 use Rattle.descriptors.proofs.Came.{got_interrupted, got_failed, got_end, got_bytes}
 use Rattle.descriptors.proofs.Signed.{failed_so, shown_so, counted_so}
 use Rattle.descriptors.proofs.read_came.Goals as goal

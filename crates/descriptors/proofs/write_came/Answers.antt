@@ -1,3 +1,4 @@
+-- A number with a sign that is passed on is read back from its bits (Signed).
 use native.Mathlib.Omega.{arith}
 use Rattle.descriptors.proofs.Came.{moved_interrupted, moved_failed, moved_to}
 use Rattle.descriptors.proofs.Signed.{failed_so, shown_so, counted_so}

@@ -1,3 +1,4 @@
+-- Each turn writes the last digit of what is left, and there is room for it: the digits were counted.
 use Rattle.digits.proofs.Decimals.{Digits}
 use Rattle.digits.proofs.put_decimal.Given as goal
 

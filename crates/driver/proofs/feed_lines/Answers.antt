@@ -1,15 +1,20 @@
 use Rattle.std.proofs.Common.{◌≡◌, ℕ, ◌+◌, ◌-◌, ◌*◌, ◌<◌, List, [], length, get_or, take, drop, refl, ap, inl, arith, rules}
+use Rattle.model.specs.declared.Change.{Change}
 use Rattle.model.specs.declared.Change.TheVariants.{IsolateSpace}
+use Rattle.model.specs.declared.State.{State}
+use Rattle.model.specs.Changes.{applied}
 use Rattle.model.specs.Session.{line_turn, line_text}
 use Rattle.model.specs.Tables.{no_guest, no_space, no_permit, no_cpu, unused_entry, no_cell}
 use Rattle.ready.specs.Usable.{usable}
 use Rattle.digits.specs.Wrote.{Wrote}
 use Rattle.closing.proofs.Withdrawn.{isolated_by}
+use Rattle.edits.specs.declared.Edit.{Edit}
 use Rattle.edits.specs.Edits.{change_of}
 use Rattle.edits.proofs.Kept.{entry_inside, cpu_inside, register_inside, mode_inside, key_inside, cell_inside}
 use Rattle.feeds.specs.Feed.{answers, whole_line}
 use Rattle.feeds.specs.Fed.{Starts, Going}
 use Rattle.feeds.proofs.Feeding.{going_start, line_starts}
+use Rattle.turns.specs.declared.Answered.TheVariants.{To}
 use Rattle.turns.specs.declared.Here.{Here}
 use Rattle.turns.specs.declared.Host.{Host}
 use Rattle.turns.specs.declared.Outcome.{Outcome}
@@ -37,10 +42,11 @@ returns-then-e-input c =
 abbrev Next : Type 0
 Next = lts.After-wrapping_add_u64 tie.the-claims reads.Pre reads.Post goal.the-invariant-loop-search goal.the-decreases-loop-search goal.the-invariant-loop-take goal.the-decreases-loop-take goal.the-invariant-loop-i goal.the-decreases-loop-i tie.handed_clauses
 
--- what the request has seen is what the tables show
+-- where the request is about to be answered
 abbrev Before : Type 0
 Before = lts.After-place_of2 tie.the-claims reads.Pre reads.Post goal.the-invariant-loop-search goal.the-decreases-loop-search goal.the-invariant-loop-take goal.the-decreases-loop-take goal.the-invariant-loop-i goal.the-decreases-loop-i tie.handed_clauses
 
+-- what the request has seen is what the tables show
 sees : (c : Before) → Sees c.loop-i.state c.read_request-request.result (length c.loop-i.scratch) (record { begun = c.loop-i.begun; ready = c.loop-i.ready; frames = c.loop-i.state.frames }) (record {
   place = c.place_of.result;
   guest = get_or c.loop-i.state.guests c.row-row.result no_guest;
@@ -107,15 +113,24 @@ again n h m b out o p t w =
       line_starts input l.i n.line_end-e.result e.0 e.1 less,
     )
 
+-- A line that stores one element at most has been answered, and the element is stored: the tables are t.
+stored : (n : Next) (o : Outcome) (e : Edit) (k : Change) (t : State) → n.answer-answered.result ≡ To o e → change_of e ≡ k → t ≡ applied n.loop-i.state k
+    → let l = n.loop-i in
+    let host : Host = record { begun = l.begun; ready = l.ready; state = l.state } in
+    let after : Host = record { begun = l.begun; ready = l.ready; state = t } in
+    Taken (line_turn (session_of host l.scratch) (whole_line l.held l.have (take (n.line_end-e.result - l.i) (drop l.i n.args.input.now)))) o n.answer-answered.new.buffer after n.answer-answered.new.scratch
+stored n o e k t is made tables =
+    let r = n.read_request-request.ensures in
+    let here : Here = record { begun = n.loop-i.begun; ready = n.loop-i.ready; frames = n.loop-i.state.frames } in
+    let seen = sees n.before.before.before.before.before.before.before in
+    let answered = line_edited _ _ _ r.value r.buffer_after _ _ _ _ _ _ n.answer-answered.ensures _ _ is _ seen in
+    stored_taken here _ _ _ _ _ _ _ _ _ answered made tables
+
 pub loop-i-preserved-in-Nothing : goal.loop-i-preserved-in-Nothing
 unfolding change_of
 loop-i-preserved-in-Nothing c =
     let n = c.before.before.before.before.before.before.before.before in
-    let r = n.read_request-request.ensures in
-    let here : Here = record { begun = n.loop-i.begun; ready = n.loop-i.ready; frames = n.loop-i.state.frames } in
-    let seen = sees n.before.before.before.before.before.before.before in
-    let k = line_edited _ _ _ r.value r.buffer_after _ _ _ _ _ _ n.answer-answered.ensures _ _ c.in-To.is _ seen in
-    let g = again n _ _ _ _ _ _ (stored_taken here _ _ _ _ _ _ _ _ _ k (ap change_of c.in-Nothing.is) refl) c.tell-at.ensures in
+    let g = again n _ _ _ _ _ _ (stored n _ _ _ _ c.in-To.is (ap change_of c.in-Nothing.is) refl) c.tell-at.ensures in
     let inv = n.loop-i.invariant in
     (g.0, g.1, omega arith, omega arith, omega (arith, inv.4), omega (arith, inv.5), g.2)
 
@@ -123,11 +138,7 @@ pub loop-i-preserved-in-Permit : goal.loop-i-preserved-in-Permit
 unfolding change_of
 loop-i-preserved-in-Permit c =
     let n = c.before.before.before.before.before.before.before.before in
-    let r = n.read_request-request.ensures in
-    let here : Here = record { begun = n.loop-i.begun; ready = n.loop-i.ready; frames = n.loop-i.state.frames } in
-    let seen = sees n.before.before.before.before.before.before.before in
-    let k = line_edited _ _ _ r.value r.buffer_after _ _ _ _ _ _ n.answer-answered.ensures _ _ c.in-To.is _ seen in
-    let g = again n _ _ _ _ _ _ (stored_taken here _ _ _ _ _ _ _ _ _ k (ap change_of c.in-Permit.is) refl) c.tell-at.ensures in
+    let g = again n _ _ _ _ _ _ (stored n _ _ _ _ c.in-To.is (ap change_of c.in-Permit.is) refl) c.tell-at.ensures in
     let inv = n.loop-i.invariant in
     (g.0, g.1, omega arith, omega arith, omega (arith, inv.4), omega (arith, inv.5), g.2)
 
@@ -135,11 +146,7 @@ pub loop-i-preserved-in-Entry : goal.loop-i-preserved-in-Entry
 unfolding change_of
 loop-i-preserved-in-Entry c =
     let n = c.before.before.before.before.before.before.before.before in
-    let r = n.read_request-request.ensures in
-    let here : Here = record { begun = n.loop-i.begun; ready = n.loop-i.ready; frames = n.loop-i.state.frames } in
-    let seen = sees n.before.before.before.before.before.before.before in
-    let k = line_edited _ _ _ r.value r.buffer_after _ _ _ _ _ _ n.answer-answered.ensures _ _ c.in-To.is _ seen in
-    let g = again n _ _ _ _ _ _ (stored_taken here _ _ _ _ _ _ _ _ _ k (ap change_of c.in-Entry.is) refl) c.tell-at.ensures in
+    let g = again n _ _ _ _ _ _ (stored n _ _ _ _ c.in-To.is (ap change_of c.in-Entry.is) refl) c.tell-at.ensures in
     let inv = n.loop-i.invariant in
     (g.0, g.1, omega arith, omega arith, omega (arith, inv.4), omega (arith, inv.5), g.2)
 
@@ -147,11 +154,7 @@ pub loop-i-preserved-in-Register : goal.loop-i-preserved-in-Register
 unfolding change_of
 loop-i-preserved-in-Register c =
     let n = c.before.before.before.before.before.before.before.before.before in
-    let r = n.read_request-request.ensures in
-    let here : Here = record { begun = n.loop-i.begun; ready = n.loop-i.ready; frames = n.loop-i.state.frames } in
-    let seen = sees n.before.before.before.before.before.before.before in
-    let k = line_edited _ _ _ r.value r.buffer_after _ _ _ _ _ _ n.answer-answered.ensures _ _ c.in-To.is _ seen in
-    let g = again n _ _ _ _ _ _ (stored_taken here _ _ _ _ _ _ _ _ _ k (ap change_of c.in-Register.is) refl) c.tell-at.ensures in
+    let g = again n _ _ _ _ _ _ (stored n _ _ _ _ c.in-To.is (ap change_of c.in-Register.is) refl) c.tell-at.ensures in
     let inv = n.loop-i.invariant in
     (g.0, g.1, omega arith, omega arith, omega (arith, inv.4), omega (arith, inv.5), g.2)
 
@@ -159,11 +162,7 @@ pub loop-i-preserved-in-Mode : goal.loop-i-preserved-in-Mode
 unfolding change_of
 loop-i-preserved-in-Mode c =
     let n = c.before.before.before.before.before.before.before.before.before in
-    let r = n.read_request-request.ensures in
-    let here : Here = record { begun = n.loop-i.begun; ready = n.loop-i.ready; frames = n.loop-i.state.frames } in
-    let seen = sees n.before.before.before.before.before.before.before in
-    let k = line_edited _ _ _ r.value r.buffer_after _ _ _ _ _ _ n.answer-answered.ensures _ _ c.in-To.is _ seen in
-    let g = again n _ _ _ _ _ _ (stored_taken here _ _ _ _ _ _ _ _ _ k (ap change_of c.in-Mode.is) refl) c.tell-at.ensures in
+    let g = again n _ _ _ _ _ _ (stored n _ _ _ _ c.in-To.is (ap change_of c.in-Mode.is) refl) c.tell-at.ensures in
     let inv = n.loop-i.invariant in
     (g.0, g.1, omega arith, omega arith, omega (arith, inv.4), omega (arith, inv.5), g.2)
 
@@ -171,11 +170,7 @@ pub loop-i-preserved-in-Key : goal.loop-i-preserved-in-Key
 unfolding change_of
 loop-i-preserved-in-Key c =
     let n = c.before.before.before.before.before.before.before.before.before in
-    let r = n.read_request-request.ensures in
-    let here : Here = record { begun = n.loop-i.begun; ready = n.loop-i.ready; frames = n.loop-i.state.frames } in
-    let seen = sees n.before.before.before.before.before.before.before in
-    let k = line_edited _ _ _ r.value r.buffer_after _ _ _ _ _ _ n.answer-answered.ensures _ _ c.in-To.is _ seen in
-    let g = again n _ _ _ _ _ _ (stored_taken here _ _ _ _ _ _ _ _ _ k (ap change_of c.in-Key.is) refl) c.tell-at.ensures in
+    let g = again n _ _ _ _ _ _ (stored n _ _ _ _ c.in-To.is (ap change_of c.in-Key.is) refl) c.tell-at.ensures in
     let inv = n.loop-i.invariant in
     (g.0, g.1, omega arith, omega arith, omega (arith, inv.4), omega (arith, inv.5), g.2)
 
@@ -183,11 +178,7 @@ pub loop-i-preserved-in-Cell : goal.loop-i-preserved-in-Cell
 unfolding change_of
 loop-i-preserved-in-Cell c =
     let n = c.before.before.before.before.before.before.before.before in
-    let r = n.read_request-request.ensures in
-    let here : Here = record { begun = n.loop-i.begun; ready = n.loop-i.ready; frames = n.loop-i.state.frames } in
-    let seen = sees n.before.before.before.before.before.before.before in
-    let k = line_edited _ _ _ r.value r.buffer_after _ _ _ _ _ _ n.answer-answered.ensures _ _ c.in-To.is _ seen in
-    let g = again n _ _ _ _ _ _ (stored_taken here _ _ _ _ _ _ _ _ _ k (ap change_of c.in-Cell.is) refl) c.tell-at.ensures in
+    let g = again n _ _ _ _ _ _ (stored n _ _ _ _ c.in-To.is (ap change_of c.in-Cell.is) refl) c.tell-at.ensures in
     let inv = n.loop-i.invariant in
     (g.0, g.1, omega arith, omega arith, omega (arith, inv.4), omega (arith, inv.5), g.2)
 

@@ -1,3 +1,4 @@
+-- At each number of a call, the kinds of the form of that number.
 use native.Mathlib.Omega.{arith}
 use mathlib.Core.Path.{refl}
 use Rattle.model.specs.Lines.{forms}

@@ -3,22 +3,18 @@ use Rattle.model.specs.Keys.{allows_key}
 use borrow.Author.Rules.{rules}
 use Rattle.keys.proofs.allows.Goals as goal
 
--- src/lib.rt:21:9
 pub returns-then-key-eq0 : goal.returns-then-key-eq0
 unfolding allows_key
 returns-then-key-eq0 c = search (tests, rules) depth 8
 
--- src/lib.rt:24:9
 pub returns-then-key-c : goal.returns-then-key-c
 unfolding allows_key
 returns-then-key-c c = search (tests, rules) depth 8
 
--- src/lib.rt:27:9
 pub returns-then-storing : goal.returns-then-storing
 unfolding allows_key
 returns-then-storing c = search (tests, rules) depth 8
 
--- src/lib.rt:17:1
 pub returns : goal.returns
 unfolding allows_key
 returns c = search (tests, rules) depth 8

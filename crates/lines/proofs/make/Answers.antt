@@ -1,3 +1,4 @@
+-- At each number of a call, the form of that number makes this request.
 use native.Mathlib.Omega.{arith}
 use mathlib.Core.Path.{refl}
 use Rattle.model.specs.Lines.{forms}

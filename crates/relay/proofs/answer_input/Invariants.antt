@@ -1,3 +1,4 @@
+-- The session came over all pieces before, in turn.
 use Rattle.std.specs.Prelude.{◌≡◌, length}
 use Rattle.works.specs.Fed.{feed_by}
 use Rattle.relay.proofs.Joined.{Came}

@@ -1,3 +1,4 @@
+-- Each turn of the loop takes a part of the piece, since there is room for a reply.
 use Rattle.std.specs.Prelude.{◌≡◌, ◌-◌, length}
 use Rattle.works.specs.Fed.{feed_by}
 use Rattle.relay.proofs.Parts.{Parts}

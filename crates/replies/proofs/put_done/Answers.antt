@@ -1,3 +1,4 @@
+-- The calls of an arm are told by their places in the enum, those of the last arm by what they are not.
 use borrow.Author.Rules.{rules}
 use Rattle.replies.proofs.Values.{number_done, bytes_done, none_done}
 use Rattle.replies.proofs.put_done.Goals as goal

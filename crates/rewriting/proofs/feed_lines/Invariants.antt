@@ -1,3 +1,4 @@
+-- Each turn of the loop takes a line.
 use Rattle.std.proofs.Common.{◌≡◌, ◌-◌, ◌≤◌, length}
 use Rattle.feeds.specs.Fed.{Starts}
 use Rattle.rewriting.proofs.Turned.{Came}

@@ -1,3 +1,5 @@
+-- The outer loop has made the frames of the guest's data spaces in the slots below u blank, the inner one those of the run in
+-- slot u that lie below f.
 use Prim.Native.Nat.{◌≤◌}
 use mathlib.Core.Path.{◌≡◌}
 use lib.ListN.{length}
@@ -9,7 +11,6 @@ use Rattle.frames.proofs.Freeing.{freed_below}
 use Rattle.closing.proofs.Ranges.{Ranged}
 use Rattle.withdrawing.proofs.blank_frames.Given as goal
 
--- blank, the inner one those of the run in slot u that lie below f. Assumes nothing.
 abbrev pub invariant-loop-f : goal.invariant-loop-f
 invariant-loop-f l = (l.f-end ≤ 512) × (length l.initial.cells ≡ 512) × (l.f ≤ l.f-end) × Ranged (λ c. no_cell) l.first l.f l.initial.cells l.cells
 

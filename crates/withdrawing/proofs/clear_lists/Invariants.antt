@@ -1,3 +1,4 @@
+-- The loop has changed the entries below place k, each by what stands where it looks.
 use Prim.Native.Nat.{◌≤◌}
 use mathlib.Core.Path.{◌≡◌}
 use lib.Dec.{eqb}

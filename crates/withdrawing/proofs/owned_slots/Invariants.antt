@@ -1,3 +1,4 @@
+-- The loop has marked the slots below u.
 use Prim.Native.Nat.{◌≤◌}
 use mathlib.Core.Path.{◌≡◌}
 use Rattle.model.specs.Searches.{is_owned}

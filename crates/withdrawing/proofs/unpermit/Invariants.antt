@@ -1,3 +1,4 @@
+-- The loop has taken the closed permits below place k.
 use Prim.Native.Nat.{◌≤◌}
 use mathlib.Core.Path.{◌≡◌}
 use Rattle.lists.proofs.Maps.{map_below}

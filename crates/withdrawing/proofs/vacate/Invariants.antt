@@ -1,3 +1,4 @@
+-- The loop has vacated the guest's data slots below u.
 use Prim.Native.Nat.{◌≤◌}
 use mathlib.Core.Path.{◌≡◌}
 use Rattle.lists.specs.Choice.{choose}

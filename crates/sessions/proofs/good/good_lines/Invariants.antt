@@ -1,3 +1,4 @@
+-- Each turn of the loop takes one line.
 use Rattle.std.specs.Prelude.{◌≡◌, ◌-◌, ◌≤◌, length}
 use Rattle.sessions.proofs.good.good_lines.Given as goal
 

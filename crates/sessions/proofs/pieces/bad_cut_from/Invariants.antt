@@ -1,3 +1,4 @@
+-- Each turn of the loop goes a step on.
 use Rattle.std.specs.Prelude.{◌≡◌, ◌+◌, ◌-◌, length}
 use Rattle.sessions.proofs.pieces.bad_cut_from.Given as goal
 

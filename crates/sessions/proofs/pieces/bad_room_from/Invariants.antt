@@ -1,3 +1,4 @@
+-- Each turn of the loop tries a larger room.
 use Rattle.std.specs.Prelude.{◌≡◌, ◌-◌, ◌≤◌, length}
 use Rattle.sessions.proofs.pieces.bad_room_from.Given as goal
 

@@ -1,3 +1,4 @@
+-- Each turn of the loop takes one byte.
 use Rattle.std.specs.Prelude.{◌≡◌, ◌-◌, ◌≤◌, length}
 use Rattle.sessions.proofs.pieces.feed_bytes.Given as goal
 

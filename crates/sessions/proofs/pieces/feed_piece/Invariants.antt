@@ -1,3 +1,4 @@
+-- Each turn of the loop takes a part of the piece, since there is room for a reply.
 use Rattle.std.specs.Prelude.{◌≡◌, ◌-◌, ◌≤◌, length}
 use Rattle.sessions.proofs.pieces.feed_piece.Given as goal
 
