@@ -1,6 +1,6 @@
 -- From what FETCH and STORE have seen to what the model judges. Assumes nothing.
 use Prim.Native.Nat.{ℕ, ◌+◌, ◌-◌, ◌*◌, ◌/◌, ◌≤◌, ◌<◌}
-use mathlib.Core.Bool.{Bool, true, false, not}
+use mathlib.Core.Bool.{Bool, true}
 use mathlib.Core.List.{List}
 use mathlib.Core.Logic.{⊎_elim, ◌≢◌}
 use mathlib.Core.Path.{◌≡◌, refl, sym, ap, ap₂, ◌∙◌}
@@ -9,29 +9,24 @@ use native.Mathlib.Omega.{arith}
 use lib.Dec.{leb}
 use lib.ListN.{length, get_or}
 use borrow.Author.Tests.{leb-true, le-leb, lt-ltb, eq-eqb, ne_eqb}
-use Rattle.lists.specs.Choice.{choose}
-use Rattle.lists.specs.Places.{lowest}
 use Rattle.lists.proofs.Choice.{yes!, no!, both_left, both_right}
-use Rattle.lists.proofs.Rules.{test_yes}
 use Rattle.model.specs.declared.Entry.{Entry}
 use Rattle.model.specs.declared.Guest.{Guest}
 use Rattle.model.specs.declared.Operation.{Operation}
 use Rattle.model.specs.declared.Right.{Right}
 use Rattle.model.specs.declared.Standing.TheVariants.{Valid}
 use Rattle.model.specs.declared.State.{State}
-use Rattle.model.specs.declared.Translation.{Translation}
-use Rattle.model.specs.declared.Translation.TheVariants.{Reached}
 use Rattle.model.specs.Arguments.{good_length}
 use Rattle.model.specs.Frames.{layout, frame_of}
 use Rattle.model.specs.Keys.{block_at, key_permits}
-use Rattle.model.specs.Searches.{enrolled, slot_named, primary_slot}
+use Rattle.model.specs.Searches.{enrolled, primary_slot}
 use Rattle.model.specs.Sound.{Live, Sound}
 use Rattle.model.specs.SoundTest.{sound}
 use Rattle.model.specs.Sizes.{frame_size}
 use Rattle.model.specs.Tables.{space_at, guest_place, cpu_at, cell_at, entry_at, unused_entry}
 use Rattle.model.specs.Through.{ThroughPrimary, ThroughEntry}
 use Rattle.model.specs.Tokens.{token_used, entry_number}
-use Rattle.model.specs.Translation.{translate}
+use Rattle.model.specs.Translation.{Translation, reaches, translate}
 use Rattle.model.proofs.Reached.{reached, reached_live}
 use Rattle.model.proofs.Searches.{live_slot}
 use Rattle.model.proofs.SoundTest.{sound_decides}
@@ -45,7 +40,7 @@ use Rattle.asks.specs.declared.Asks.{Asks}
 use Rattle.views.specs.declared.View.{View}
 use Rattle.asks.specs.Asks.{moving, asks_by}
 use Rattle.views.specs.Token.{token_by}
-use Rattle.views.specs.Search.{sought_by, search_using, search_through, slot_in, found_by}
+use Rattle.views.specs.Search.{slot_using, slot_through, slot_in}
 use Rattle.views.specs.Views.{cell_place, view_of}
 use Rattle.views.proofs.Cells.{cell_frame}
 use Rattle.views.proofs.Judged.{seen_enrolled, row_own, seen_guest}
@@ -77,21 +72,21 @@ module _ (s : State) (g r a : ℕ) (o : Operation) (v : View) (asks : asks_by g 
       ap (λ (x : View). x.entry) seen
       ∙ ap₂ (λ k t. get_or s.entries (token_place k t) unused_entry) row (sym (ap (λ (x : View). x.token) seen) ∙ token_is)
 
-  slot_is : v.slot ≡ found_by (search_through g token v.entry.standing) s.spaces
-  unfolding view_of search_using
+  slot_is : v.slot ≡ slot_through g token v.entry.standing s.spaces
+  unfolding view_of slot_using
   slot_is =
       ap (λ (x : View). x.slot) seen
-      ∙ ap₂ (λ t y. found_by (search_through g t y) s.spaces) (sym (ap (λ (x : View). x.token) seen) ∙ token_is) (ap (λ (x : View). x.entry.standing) (sym seen))
+      ∙ ap₂ (λ t y. slot_through g t y s.spaces) (sym (ap (λ (x : View). x.token) seen) ∙ token_is) (ap (λ (x : View). x.entry.standing) (sym seen))
 
   -- token 0: the primary space
   slot_primary : token ≡ 0 → v.slot ≡ primary_slot s.spaces g
-  unfolding search_through found_by choose sought_by primary_slot slot_named lowest
-  slot_primary z = slot_is ∙ ap (λ f. found_by f s.spaces) (yes! _ _ (eq-eqb token 0 z))
+  unfolding slot_through primary_slot
+  slot_primary z = slot_is ∙ yes! _ _ (eq-eqb token 0 z)
 
   -- an entry: its space
   slot_entry : (u : ℕ) (q : Right) → token ≢ 0 → v.entry.standing ≡ Valid u q → v.slot ≡ u
-  unfolding search_through slot_in found_by choose
-  slot_entry u q z p = slot_is ∙ ap (λ f. found_by f s.spaces) (no! _ _ (ne_eqb token 0 z) ∙ ap slot_in p)
+  unfolding slot_through slot_in
+  slot_entry u q z p = slot_is ∙ no! _ _ (ne_eqb token 0 z) ∙ ap slot_in p
 
   module _ (x : Translation) (y : x ≡ translated_by v.slot v.guest.list v.entry v.token) where
     pub aimed : Aimed s g r x
@@ -105,7 +100,7 @@ module _ (s : State) (g r a : ℕ) (o : Operation) (v : View) (asks : asks_by g 
     }
 
     -- the space reached is the one that was seen
-    module _ (so : sound s ≡ true) (u : ℕ) (q : Right) (f : x ≡ Reached u q) where
+    module _ (so : sound s ≡ true) (u : ℕ) (q : Right) (f : x ≡ reaches u q) where
       ok : Sound s
       ok = (sound_decides s).to so
 
@@ -178,6 +173,3 @@ any_run s u m so room = go (dec_le 1 (space_at s.spaces u).id)
 pub seen_run : (s : State) (a : Asks) (v : View) (m : List ℕ) → sound s ≡ true → length m ≡ s.frames * 4096 → v ≡ view_of s a → RunIn v.space m
 unfolding view_of
 seen_run s a v m so room e = rw e (any_run s _ m so room)
-
-pub length-small : (y : Bool) (n : ℕ) → y ≡ good_length n → not y ≡ false → n ≤ 256
-length-small y n e l = leb-true n 256 (both_right (leb 1 n) (leb n 256) (test_yes y (good_length n) e l))

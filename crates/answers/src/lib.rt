@@ -26,13 +26,11 @@ fn limit_number(kind: Kind) -> u32
 }
 
 // Whether this is one of limit_number's numbers, so that the answer names an argument.
+#[tactic(auto, unfolding(model::specs::Answers::names_argument, lists::specs::Choice::both))]
 pub fn names_argument(number: u32) -> bool
     ensures { result ≡ names_argument number }
 {
-    if number < 31 {
-        return false;
-    }
-    number <= 40
+    (31..=40).contains(&number)
 }
 
 // The cases stand in the order of the enum.
@@ -41,10 +39,10 @@ pub fn number(a: Answer) -> u32
     ensures { result ≡ number_of a }
 {
     match a {
-        Answer::Done { value: _ } => 0,
+        Answer::Done { .. } => 0,
         Answer::Unsound => 1,
         Answer::BadCaller => 2,
-        Answer::Limit { kind, place: _ } => limit_number(kind),
+        Answer::Limit { kind, .. } => limit_number(kind),
         Answer::NameTaken => 4,
         Answer::NoSpace => 5,
         Answer::NotOwner => 6,
@@ -76,7 +74,7 @@ pub fn value(a: Answer) -> u32
 {
     match a {
         Answer::Done { value } => value,
-        Answer::Limit { kind: _, place } => place as u32,
+        Answer::Limit { place, .. } => u32::from(place),
         _ => 0,
     }
 }

@@ -2,4 +2,3 @@ pub mod Marks
 pub mod Rings
 pub mod Warns
 pub mod Whole
-pub mod Rules

@@ -1,11 +1,11 @@
 -- Loops that add up clashes. Assumes nothing.
 use Prim.Native.Nat.{ℕ, ◌+◌, ◌*◌, ◌≤◌, ◌<◌}
-use mathlib.Core.List.{List}
 use mathlib.Core.Logic.{◌≢◌}
 use mathlib.Core.Path.{◌≡◌}
 use native.Mathlib.Decide.{ℕ_discrete}
 use native.Mathlib.Omega.{arith}
 use lib.ListN.{get_or}
+use Rattle.apart.specs.declared.quick.Columns.{Columns}
 use Rattle.apart.specs.Warns.{Warns, Below, Parted, ClearIn}
 
 -- a sum r of i counts, each at most m, out of e; where it is 0, P holds of each of the numbers below i
@@ -35,11 +35,11 @@ module _ (P : ℕ → Type 0) (m e : ℕ) where
     sum_end t w l = let q : i ≡ e = omega arith in rw w at (rw q at s.warns)
 
 -- the three counts of one pair
-module _ (is ns fs es : List ℕ) (u v : ℕ) where
-  pub pair_warns : (i k f : ℕ) → Warns (get_or is u 0 ≢ get_or is v 0) 1 i → Warns (get_or ns u 0 ≢ get_or ns v 0) 1 k → Warns (Parted (get_or fs u 0) (get_or es u 0) (get_or fs v 0) (get_or es v 0)) 1 f → Warns (ClearIn is ns fs es u v) 3 (i + k + f)
-  pair_warns i k f a b c = record {
-    most = omega (arith, a.most, b.most, c.most);
-    none = λ z. record { id = a.none (omega arith); name = b.none (omega arith); frames = c.none (omega arith) };
+module _ (c : Columns) (u v : ℕ) where
+  pub pair_warns : (i k f : ℕ) → Warns (get_or c.ids u 0 ≢ get_or c.ids v 0) 1 i → Warns (get_or c.names u 0 ≢ get_or c.names v 0) 1 k → Warns (Parted (get_or c.firsts u 0) (get_or c.ends u 0) (get_or c.firsts v 0) (get_or c.ends v 0)) 1 f → Warns (ClearIn c u v) 3 (i + k + f)
+  pair_warns i k f a b w = record {
+    most = omega (arith, a.most, b.most, w.most);
+    none = λ z. record { id = a.none (omega arith); name = b.none (omega arith); frames = w.none (omega arith) };
   }
 
 pub ruleset sums = (sum_start, sum_go, sum_end, pair_warns)

@@ -14,6 +14,7 @@ use Rattle.lists.proofs.Places.{every_intro}
 use Rattle.model.specs.declared.Space.{Space}
 use Rattle.model.specs.SoundTest.{pair_test, apart_test}
 use Rattle.model.specs.Tables.{space_at}
+use Rattle.apart.specs.declared.quick.Columns.{Columns}
 use Rattle.apart.specs.Rings.{Ring, ids_of, names_of, firsts_of, ends_of}
 use Rattle.apart.specs.Warns.{Warns, Below, Clear, ClearAt, ClearIn}
 use Rattle.apart.proofs.Marks.{marks_apart}
@@ -30,22 +31,22 @@ module _ (ss : List Space) where
   apart_of : (u v : ℕ) → ClearOf u v → pair_test (space_at ss u) (space_at ss v) ≡ true
   apart_of u v c = marks_apart (space_at ss u) (space_at ss v) u v c.id c.name c.frames
 
-  module _ (is ns fs es : List ℕ) (ri : Ring (ids_of ss) 32 is) (rn : Ring (names_of ss) 32 ns) (rf : Ring (firsts_of ss) 32 fs) (re : Ring (ends_of ss) 32 es) where
-    near : (u v : ℕ) → u < 32 → v < 32 → ClearIn is ns fs es u v → ClearOf u v
-    near u v l m c = record {
-      id = λ e. c.id (ri.near u l ∙ e ∙ sym (ri.near v m));
-      name = λ e. c.name (rn.near u l ∙ e ∙ sym (rn.near v m));
-      frames = λ p q. c.frames (rw (rf.near u l, re.near v m) p) (rw (rf.near v m, re.near u l) q);
+  module _ (c : Columns) (ri : Ring (ids_of ss) 32 c.ids) (rn : Ring (names_of ss) 32 c.names) (rf : Ring (firsts_of ss) 32 c.firsts) (re : Ring (ends_of ss) 32 c.ends) where
+    near : (u v : ℕ) → u < 32 → v < 32 → ClearIn c u v → ClearOf u v
+    near u v l m w = record {
+      id = λ e. w.id (ri.near u l ∙ e ∙ sym (ri.near v m));
+      name = λ e. w.name (rn.near u l ∙ e ∙ sym (rn.near v m));
+      frames = λ p q. w.frames (rw (rf.near u l, re.near v m) p) (rw (rf.near v m, re.near u l) q);
     }
 
-    far : (u v : ℕ) → u < 32 → v < 32 → ClearIn is ns fs es u (v + 32) → ClearOf u v
-    far u v l m c = record {
-      id = λ e. c.id (ri.near u l ∙ e ∙ sym (ri.far v m));
-      name = λ e. c.name (rn.near u l ∙ e ∙ sym (rn.far v m));
-      frames = λ p q. c.frames (rw (rf.near u l, re.far v m) p) (rw (rf.far v m, re.near u l) q);
+    far : (u v : ℕ) → u < 32 → v < 32 → ClearIn c u (v + 32) → ClearOf u v
+    far u v l m w = record {
+      id = λ e. w.id (ri.near u l ∙ e ∙ sym (ri.far v m));
+      name = λ e. w.name (rn.near u l ∙ e ∙ sym (rn.far v m));
+      frames = λ p q. w.frames (rw (rf.near u l, re.far v m) p) (rw (rf.far v m, re.near u l) q);
     }
 
-    module _ (h : Below 16 (λ d. ClearAt is ns fs es (d + 1))) where
+    module _ (h : Below 16 (λ d. ClearAt c (d + 1))) where
       -- from the lower slot on if the other is near, from the higher one round the ring if not
       up : (u v : ℕ) → u < v → v < 32 → ClearOf u v
       up u v l m = go (dec_le (v - u) 16)
@@ -74,6 +75,5 @@ module _ (ss : List Space) where
           pair u v l m (no n) = either_right _ _ (apart_of u v (clear u v l m n))
 
 -- the whole test, by its count over the columns that were filled
-pub none_apart : (ss : List Space) (is ns fs es : List ℕ) (u n : ℕ) → Filling (ids_of ss) u is → Filling (names_of ss) u ns → Filling (firsts_of ss) u fs → Filling (ends_of ss) u es → 32 ≤ u → Warns (Below 16 (λ d. ClearAt is ns fs es (d + 1))) 1536 n → eqb n 0 ≡ true → apart_test ss ≡ true
-none_apart ss is ns fs es u n i k f e l w z =
-    all_apart ss is ns fs es (ring_end _ is u l i) (ring_end _ ns u l k) (ring_end _ fs u l f) (ring_end _ es u l e) (w.none (eqb-true n 0 z))
+pub none_apart : (ss : List Space) (c : Columns) (u n : ℕ) → Filling (ids_of ss) u c.ids → Filling (names_of ss) u c.names → Filling (firsts_of ss) u c.firsts → Filling (ends_of ss) u c.ends → 32 ≤ u → Warns (Below 16 (λ d. ClearAt c (d + 1))) 1536 n → eqb n 0 ≡ true → apart_test ss ≡ true
+none_apart ss c u n i k f e l w z = all_apart ss c (ring_end _ c.ids u l i) (ring_end _ c.names u l k) (ring_end _ c.firsts u l f) (ring_end _ c.ends u l e) (w.none (eqb-true n 0 z))

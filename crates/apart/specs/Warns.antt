@@ -1,5 +1,6 @@
 -- Counts of clashes. A count of 0 says that there is none.
-use Rattle.std.specs.Prelude.{ℕ, ◌+◌, ◌≤◌, ◌<◌, List, ◌≢◌, ◌≡◌, get_or}
+use Rattle.std.specs.Prelude.{ℕ, ◌+◌, ◌≤◌, ◌<◌, ◌≢◌, ◌≡◌, get_or}
+use Rattle.apart.specs.declared.quick.Columns.{Columns}
 
 -- r is at most m, and where it is 0, P holds
 pub record Warns (P : Type 0) (m r : ℕ) : Type 0 where
@@ -21,9 +22,9 @@ pub record Clear (ids names firsts ends : ℕ → ℕ) (u v : ℕ) : Type 0 wher
   pub frames : Parted (firsts u) (ends u) (firsts v) (ends v)
 
 -- the same over the columns themselves
-abbrev pub ClearIn : (ids names firsts ends : List ℕ) → (u v : ℕ) → Type 0
-ClearIn is ns fs es = Clear (λ k. get_or is k 0) (λ k. get_or ns k 0) (λ k. get_or fs k 0) (λ k. get_or es k 0)
+abbrev pub ClearIn : Columns → (u v : ℕ) → Type 0
+ClearIn c = Clear (λ k. get_or c.ids k 0) (λ k. get_or c.names k 0) (λ k. get_or c.firsts k 0) (λ k. get_or c.ends k 0)
 
 -- each slot against the one that stands d places further on
-abbrev pub ClearAt : (ids names firsts ends : List ℕ) → (distance : ℕ) → Type 0
-ClearAt is ns fs es d = Below 32 (λ u. ClearIn is ns fs es u (u + d))
+abbrev pub ClearAt : Columns → (distance : ℕ) → Type 0
+ClearAt c d = Below 32 (λ u. ClearIn c u (u + d))

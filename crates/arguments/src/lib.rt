@@ -1,36 +1,36 @@
-// A program's arguments: it takes none but `--help`.
+// A program's arguments: one that takes none but `--help`, and how any program reads one.
 #![tactic(auto)]
 
-ghost use Rattle.std.specs.Prelude.{◌≤◌, length};
+ghost use Rattle.std.specs.Prelude.{◌≤◌, length, IfSome};
 
 use std::env::FillError;
 use std::io;
 use std::io::{Cursor, Write};
 use std::rt::Env;
 
-// Whether there is an argument at that place; the program's name stands at 0.
-fn is_given(rt: &impl Env, place: usize) -> bool {
-    match rt.arg(place, &mut []) {
-        Ok(_) => true,
-        Err(FillError::TooLong) => true,
-        Err(FillError::NotPresent) => false,
+// Puts the argument of that place at the start of the text and tells its length: 0 where it is too long, and nothing where there is
+// none. The program's name stands at 0.
+pub fn at(rt: &impl Env, place: usize, text: &mut [u8]) -> Option<usize>
+    ensures { IfSome result (λ n. n ≤ length text.new) }
+{
+    match rt.arg(place, text) {
+        Ok(n) => Some(n),
+        Err(FillError::TooLong) => Some(0),
+        Err(FillError::NotPresent) => None,
     }
 }
 
 // Whether there are none, so that the program does its work.
 pub fn are_none(rt: &impl Env) -> bool {
-    !is_given(rt, 1)
+    at(rt, 1, &mut []).is_none()
 }
 
 // Whether the only one is `--help`.
 fn ask_for_help(rt: &impl Env) -> bool {
-    if is_given(rt, 2) {
-        return false;
-    }
     let mut word = [0u8; 6];
-    match rt.arg(1, &mut word) {
-        Ok(n) => word[..n] == b"--help"[..],
-        Err(_) => false,
+    match at(rt, 1, &mut word) {
+        Some(n) => word[..n] == b"--help"[..] && at(rt, 2, &mut []).is_none(),
+        None => false,
     }
 }
 
@@ -38,31 +38,27 @@ fn ask_for_help(rt: &impl Env) -> bool {
 fn reason_length(text: &[u8]) -> usize
     ensures { result ≤ length text.now }
 {
-    for i in 0..text.len() {
-        if text[i..].starts_with(b" (os error ") {
-            return i;
-        }
-    }
-    text.len()
+    let number: &[u8] = b" (os error ";
+    text.windows(number.len())
+        .position(|part| part == number)
+        .unwrap_or(text.len())
 }
 
-// One line: what failed, and what the system calls the error of that number.
+// One line: what failed, and what the system calls the error of that number. Where the complaints can't be written they are lost.
 fn fail<W: Write>(to: &mut W, what: &[u8], error: u32) {
     let number = i32::try_from(error).unwrap_or(0);
     let mut text = Cursor::new([0u8; 320]);
     let _ = write!(text, "{}", io::Error::from_raw_os_error(number));
     let size = reason_length(text.get_ref());
-    descriptors::send(to, what);
-    descriptors::send(to, b": ");
-    descriptors::send(to, &text.get_ref()[..size]);
-    descriptors::send(to, b"\n");
+    for part in [what, b": ", &text.get_ref()[..size], b"\n"] {
+        let _ = descriptors::send(to, part);
+    }
 }
 
 // `asked` is what is said to have failed where the text can't be written.
 fn help<O: Write, E: Write>(out: &mut O, complaints: &mut E, text: &[u8], asked: &[u8]) {
-    let sent = descriptors::send(out, text);
-    if sent.count < text.len() {
-        fail(complaints, asked, sent.error);
+    if let Err(unsent) = descriptors::send(out, text) {
+        fail(complaints, asked, unsent.error);
     }
 }
 
@@ -79,5 +75,5 @@ pub fn answer<O: Write, E: Write>(
         help(out, complaints, text, asked);
         return;
     }
-    descriptors::send(complaints, refusal);
+    let _ = descriptors::send(complaints, refusal);
 }

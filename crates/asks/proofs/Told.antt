@@ -1,21 +1,10 @@
--- What a call that the code has taken apart asks to see, and that every call asks for its caller. Assumes nothing.
+-- Every call asks for its caller. Assumes nothing.
 use Prim.Native.Nat.{ℕ}
-use mathlib.Core.Path.{◌≡◌, refl, sym, ap, ◌∙◌}
-use Rattle.model.specs.declared.Call.{Call}
+use mathlib.Core.Path.{◌≡◌, refl}
 use Rattle.model.specs.declared.Operation.{Operation}
 use Rattle.model.specs.declared.Operation.TheVariants.{Enrol, Create, Destroy, Permit, Isolate, Query, Add, Remove, Load, Mode, Fetch, Store, Reset, Key, Block}
-use Rattle.asks.specs.declared.Asks.{Asks}
 use Rattle.asks.specs.Asks.{asks_by}
 
-module _ (k : Call) where
-  abbrev asked : Asks
-  asked = asks_by k.caller.guest k.operation
-
-  -- a call that was found to be o asks for what o asks for
-  pub asks_as : (o : Operation) (x : Asks) → k.operation ≡ o → x ≡ asks_by k.caller.guest o → x ≡ asked
-  asks_as o x e p = p ∙ ap (asks_by k.caller.guest) (sym e)
-
--- every call asks for its caller
 pub asks_caller : (g : ℕ) (o : Operation) → (asks_by g o).caller ≡ g
 unfolding asks_by
 asks_caller g (Enrol x) = refl

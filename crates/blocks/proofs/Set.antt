@@ -1,13 +1,14 @@
 -- What BLOCK decides on what it has seen is what the model says. Assumes nothing.
 use Prim.Native.Nat.{ℕ, ◌+◌, ◌*◌, ◌/◌, ◌≤◌, ◌<◌}
 use mathlib.Core.Bool.{Bool, true, false, not}
-use mathlib.Core.Path.{◌≡◌, refl, ap, ◌∙◌}
+use mathlib.Core.Path.{◌≡◌, refl, sym, ap, ◌∙◌}
 use native.Mathlib.Omega.{arith}
 use lib.Dec.{ltb, eqb}
 use borrow.Author.Tests.{le-leb, lt-leb, ltb-true}
+use Rattle.std.specs.Prelude.{Result, Ok, Err}
 use Rattle.lists.proofs.Rules.{test_no, test_yes}
 use Rattle.model.specs.declared.Answer.{Answer}
-use Rattle.model.specs.declared.Answer.TheVariants.{Done, Limit, Addressing}
+use Rattle.model.specs.declared.Answer.TheVariants.{Limit, Addressing}
 use Rattle.model.specs.declared.Caller.{Caller}
 use Rattle.model.specs.declared.Change.TheVariants.{SetCell}
 use Rattle.model.specs.declared.Kind.TheVariants.{Flag, Key as KeyKind}
@@ -16,7 +17,7 @@ use Rattle.model.specs.declared.Space.{Space}
 use Rattle.model.specs.declared.State.{State}
 use Rattle.model.specs.Arguments.{arguments, check_all}
 use Rattle.model.specs.Calls.{enrols, perform, judge, block}
-use Rattle.model.specs.Decision.{Decision, check, done}
+use Rattle.model.specs.Decision.{Decision, check, done, refuse}
 use Rattle.model.specs.Frames.{layout, frame_of, size_of}
 use Rattle.model.specs.Replies.{call_of}
 use Rattle.model.specs.Searches.{slot_of}
@@ -26,12 +27,10 @@ use Rattle.model.specs.Tables.{space_at}
 use Rattle.model.proofs.Rules.{check_yes, check_no}
 use Rattle.model.proofs.Searches.{slot_found}
 use Rattle.model.proofs.SoundTest.{sound_decides}
-use Rattle.lookup.specs.declared.Owned.{Owned}
-use Rattle.lookup.specs.declared.Owned.TheVariants.{At, Refused}
 use Rattle.lookup.specs.Owned.{owned_at}
-use Rattle.edits.specs.declared.Edit.TheVariants.{Nothing, Cell as CellEdit}
-use Rattle.edits.specs.declared.Edited.{Edited}
-use Rattle.edits.specs.Edits.{change_of, Fits, Decided}
+use Rattle.edits.specs.declared.Edit.TheVariants.{Cell as CellEdit}
+use Rattle.edits.specs.declared.Granted.{Granted}
+use Rattle.edits.specs.Edits.{change_of, edited, Fits, Decided}
 use Rattle.edits.proofs.Kept.{decided_refused, decided_done}
 use Rattle.views.specs.declared.View.{View}
 use Rattle.asks.specs.Asks.{asks_by}
@@ -41,19 +40,22 @@ use Rattle.views.proofs.Judged.{judged_good}
 use Rattle.views.proofs.Looked.{space_slot, block_finds}
 use Rattle.views.proofs.Seeking.{Shows, Seeks, slot_low, stops, slot_is, goes_on}
 
-module _ (v : View) (i a k m : ℕ) (x : Edited) (l : v.place < 8) where
-  pub block_key : 15 < k → x ≡ record { answer = Limit KeyKind 4; edit = Nothing } → Decided v (Block i a k m) x
+module _ (v : View) (i a k m : ℕ) (l : v.place < 8) where
+  pub block_key : (y : Answer) → y ≡ Limit KeyKind 4 → 16 ≤ k → Decided v (Block i a k m) (edited (Err y))
   unfolding enrols arguments check_all
-  block_key h p = decided_refused v (Block i a k m) x _ p (λ s c ok e. judged_good s c (Block i a k m) 0 v refl e l ∙ check_no _ _ (lt-leb k 15 h))
+  block_key y is h = decided_refused v (Block i a k m) y (λ s c ok e. judged_good s c (Block i a k m) 0 v refl e l ∙ check_no _ _ (lt-leb k 15 h) ∙ ap refuse (sym is))
 
-  module _ (small : k ≤ 15) where
-    pub block_mark : 1 < m → x ≡ record { answer = Limit Flag 5; edit = Nothing } → Decided v (Block i a k m) x
+  module _ (small : k < 16) where
+    pub block_mark : (y : Answer) → y ≡ Limit Flag 5 → 2 ≤ m → Decided v (Block i a k m) (edited (Err y))
     unfolding enrols arguments check_all
-    block_mark h p =
-        decided_refused v (Block i a k m) x _ p
-        (λ s c ok e. judged_good s c (Block i a k m) 0 v refl e l ∙ check_yes _ _ (le-leb k 15 small) ∙ check_no _ _ (lt-leb m 1 h))
+    block_mark y is h =
+        decided_refused v (Block i a k m) y
+        (λ s c ok e. judged_good s c (Block i a k m) 0 v refl e l ∙ check_yes _ _ (le-leb k 15 (omega arith)) ∙ check_no _ _ (lt-leb m 1 h) ∙ ap refuse (sym is))
 
-    module _ (flag : m ≤ 1) (o : Owned) (is : o ≡ owned_at v.slot v.space (v.place + 1)) where
+    module _ (flag : m < 2) (g : ℕ) (own : g ≡ v.place + 1) (o : Result ℕ Answer) (found : o ≡ owned_at v.slot v.space g) where
+      is : o ≡ owned_at v.slot v.space (v.place + 1)
+      is = found ∙ ap (owned_at v.slot v.space) own
+
       -- what follows the checks 5 and 6
       set : State → Caller → Decision
       set s c =
@@ -64,13 +66,13 @@ module _ (v : View) (i a k m : ℕ) (x : Edited) (l : v.place < 8) where
       unfolding enrols arguments check_all perform block set
       block_seeks = record {
         finds = λ s c e. block_finds s c.guest i v a k m e;
-        judged = λ s c e. judged_good s c (Block i a k m) 0 v refl e l ∙ check_yes _ _ (le-leb k 15 small) ∙ check_yes _ _ (le-leb m 1 flag);
+        judged = λ s c e. judged_good s c (Block i a k m) 0 v refl e l ∙ check_yes _ _ (le-leb k 15 (omega arith)) ∙ check_yes _ _ (le-leb m 1 (omega arith));
       }
 
-      pub block_refused : (y : Answer) → o ≡ Refused y → x ≡ record { answer = y; edit = Nothing } → Decided v (Block i a k m) x
-      block_refused y q p = decided_refused v (Block i a k m) x y p (λ s c ok e. stops v (Block i a k m) i l o is set block_seeks y q s c e)
+      pub block_refused : (y : Answer) → o ≡ Err y → Decided v (Block i a k m) (edited (Err y))
+      block_refused y q = decided_refused v (Block i a k m) y (λ s c ok e. stops v (Block i a k m) i l o is set block_seeks y q s c e)
 
-      module _ (u : ℕ) (q : o ≡ At u) (t : Bool) (ts : t ≡ ltb a (v.space.pages * 4096)) where
+      module _ (u : ℕ) (q : o ≡ Ok u) (t : Bool) (ts : t ≡ ltb a (v.space.pages * 4096)) where
         slot : (s : State) (c : Caller) → Shows v (Block i a k m) s c → v.slot ≡ slot_of s.spaces i
         slot s c e = block_finds s c.guest i v a k m e
 
@@ -89,10 +91,10 @@ module _ (v : View) (i a k m : ℕ) (x : Edited) (l : v.place < 8) where
         judged_block : (s : State) (c : Caller) → Shows v (Block i a k m) s c → judge s (call_of c (Block i a k m)) 0 ≡ set s c
         judged_block = goes_on v (Block i a k m) i l o is set block_seeks u q
 
-        pub block_outside : not t ≡ true → x ≡ record { answer = Addressing; edit = Nothing } → Decided v (Block i a k m) x
+        pub block_outside : not t ≡ true → Decided v (Block i a k m) (edited (Err Addressing))
         unfolding set
-        block_outside n p =
-            decided_refused v (Block i a k m) x _ p (λ s c ok e. judged_block s c e ∙ check_no _ _ (test_no t _ (inside_is s c e) n))
+        block_outside n =
+            decided_refused v (Block i a k m) _ (λ s c ok e. judged_block s c e ∙ check_no _ _ (test_no t _ (inside_is s c e) n))
 
         -- the place is that of the address's frame
         place_is : (s : State) (c : Caller) → sound s ≡ true → Shows v (Block i a k m) s c → not t ≡ false
@@ -102,10 +104,10 @@ module _ (v : View) (i a k m : ℕ) (x : Edited) (l : v.place < 8) where
             ap (λ y. cell_place y (a / 4096)) (space_is s c e)
             ∙ cell_frame s (slot_of s.spaces i) (a / 4096) ((sound_decides s).to ok) (slot_found s.spaces i (low s c e)).0 (omega arith)
 
-        pub block_done : (f : ℕ) → not t ≡ false → f ≡ cell_place v.space (a / 4096) → f < 512
-            → x ≡ record { answer = Done 0; edit = CellEdit f (record { key = k; mark = eqb m 1 }) } → Decided v (Block i a k m) x
+        pub block_done : (f j : ℕ) (b : Bool) (x : Granted) → not t ≡ false → f ≡ cell_place v.space (a / 4096) → f < 512 → j ≡ k → b ≡ eqb m 1
+            → x ≡ record { value = 0; edit = CellEdit f (record { key = j; mark = b }) } → Decided v (Block i a k m) (edited (Ok x))
         unfolding set change_of Fits
-        block_done f n w small p =
-            decided_done v (Block i a k m) x _ _ p small
+        block_done f j b x n w inside at bs p =
+            decided_done v (Block i a k m) x _ p inside
             (λ s c ok e. rw (judged_block s c e ∙ check_yes _ _ (test_yes t _ (inside_is s c e) n))
-            (record { answer = refl; change = ap (λ y. SetCell y (record { key = k; mark = eqb m 1 })) (w ∙ place_is s c ok e n) }))
+            (record { answer = refl; change = rw (at, bs) (ap (λ y. SetCell y (record { key = k; mark = eqb m 1 })) (w ∙ place_is s c ok e n)) }))

@@ -5,19 +5,18 @@ use model::{BASE, Cell, Entry, Grant, Permit, Right, Standing, State};
 
 pub const COUNT: u32 = 50;
 
-fn head(mut s: State, k: u32) -> State {
+fn head(s: &mut State, k: u32) {
     match k {
         0 => s.frames = 0,
         1 => s.frames = 513,
         2 => s.next = 0,
         _ => s.next = 65537,
     }
-    s
 }
 
 // TEMP, in slot 2.
-fn live_space(mut s: State, k: u32) -> State {
-    let mut x = s.spaces[2];
+fn live_space(s: &mut State, k: u32) {
+    let x = &mut s.spaces[2];
     match k {
         4 => x.owner = 3,
         5 => x.pages = 0,
@@ -28,61 +27,45 @@ fn live_space(mut s: State, k: u32) -> State {
         10 => x.name = 0x74454d5020202020,
         _ => x.name = BASE,
     }
-    s.spaces[2] = x;
-    s
 }
 
 // Slot 3, which no space has.
-fn dead_space(mut s: State, k: u32) -> State {
-    let mut x = s.spaces[3];
+fn dead_space(s: &mut State, k: u32) {
+    let x = &mut s.spaces[3];
     match k {
         12 => x.owner = 1,
         13 => x.name = trials::TEMP,
         14 => x.first = 5,
         _ => x.pages = 1,
     }
-    s.spaces[3] = x;
-    s
 }
 
 // Guest 1, who is enrolled, and the mode of guest 2, who is too.
-fn enrolled_guest(mut s: State, k: u32) -> State {
-    let mut g = s.guests[0];
-    let mut x = s.spaces[0];
-    let mut c = s.cpus[1];
+fn enrolled_guest(s: &mut State, k: u32) {
     match k {
-        16 => x.name = trials::WORK,
-        17 => g.allowance = 0,
-        18 => g.allowance = 32,
-        19 => g.list = 0,
-        20 => g.list = 31,
-        _ => c.mode = true,
+        16 => s.spaces[0].name = trials::WORK,
+        17 => s.guests[0].allowance = 0,
+        18 => s.guests[0].allowance = 32,
+        19 => s.guests[0].list = 0,
+        20 => s.guests[0].list = 31,
+        _ => s.cpus[1].mode = true,
     }
-    s.guests[0] = g;
-    s.spaces[0] = x;
-    s.cpus[1] = c;
-    s
 }
 
 // Guest 3, who is not.
-fn absent_guest(mut s: State, k: u32) -> State {
-    let mut g = s.guests[2];
-    let mut c = s.cpus[2];
+fn absent_guest(s: &mut State, k: u32) {
     match k {
-        22 => g.allowance = 1,
-        23 => g.share = true,
-        24 => g.list = 1,
-        25 => g.asf = true,
-        26 => c.mode = true,
-        _ => c.registers[15] = 1,
+        22 => s.guests[2].allowance = 1,
+        23 => s.guests[2].share = true,
+        24 => s.guests[2].list = 1,
+        25 => s.guests[2].asf = true,
+        26 => s.cpus[2].mode = true,
+        _ => s.cpus[2].registers[15] = 1,
     }
-    s.guests[2] = g;
-    s.cpus[2] = c;
-    s
 }
 
 // The permit of the space in slot u to guest h stands at place u * 8 + h - 1.
-fn permit(mut s: State, k: u32) -> State {
+fn permit(s: &mut State, k: u32) {
     let reading = Permit {
         grant: Grant::Reading,
     };
@@ -92,28 +75,18 @@ fn permit(mut s: State, k: u32) -> State {
         30 => s.permits[18] = reading,
         _ => s.permits[16] = reading,
     }
-    s
 }
 
 // Entry n of guest g stands at place (g - 1) * 30 + n - 2.
 fn entry(standing: Standing, sequence: u8) -> Entry {
-    Entry {
-        standing: standing,
-        sequence: sequence,
-    }
+    Entry { standing, sequence }
 }
 
 fn valid(slot: u8, right: Right) -> Entry {
-    entry(
-        Standing::Valid {
-            slot: slot,
-            right: right,
-        },
-        0,
-    )
+    entry(Standing::Valid { slot, right }, 0)
 }
 
-fn list_entry(mut s: State, k: u32) -> State {
+fn list_entry(s: &mut State, k: u32) {
     match k {
         32 => s.entries[30] = valid(3, Right::Read),
         33 => s.entries[30] = valid(32, Right::Read),
@@ -121,11 +94,10 @@ fn list_entry(mut s: State, k: u32) -> State {
         35 => s.entries[30] = valid(2, Right::Write),
         _ => s.entries[34] = entry(Standing::Unused, 1),
     }
-    s
 }
 
 // Frame 2 is TEMP's, frame 3 is free, and the eight frames end before frame 8.
-fn cell(mut s: State, k: u32) -> State {
+fn cell(s: &mut State, k: u32) {
     let marked = Cell { key: 0, mark: true };
     match k {
         37 => s.cells[2] = Cell {
@@ -148,46 +120,30 @@ fn cell(mut s: State, k: u32) -> State {
         },
         _ => s.cells[511] = marked,
     }
-    s
 }
 
 // Guest 2 is enrolled, guest 3 is not.
-fn access_key(mut s: State, k: u32) -> State {
+fn access_key(s: &mut State, k: u32) {
     match k {
         44 => s.cpus[1].key = 16,
         45 => s.cpus[1].key = 15,
         _ => s.cpus[2].key = 1,
     }
-    s
 }
 
-pub(crate) fn state(s: State, k: u32) -> State {
-    if k < 4 {
-        return head(s, k);
-    }
-    if k < 12 {
-        return live_space(s, k);
-    }
-    if k < 16 {
-        return dead_space(s, k);
-    }
-    if k < 22 {
-        return enrolled_guest(s, k);
-    }
-    if k < 28 {
-        return absent_guest(s, k);
-    }
-    if k < 32 {
-        return permit(s, k);
-    }
-    if k < 37 {
-        return list_entry(s, k);
-    }
-    if k < 44 {
-        return cell(s, k);
-    }
-    if k < 47 {
-        return access_key(s, k);
+// By value: the state that is altered is a copy, and the next one is altered anew.
+pub(crate) fn state(mut s: State, k: u32) -> State {
+    match k {
+        0..4 => head(&mut s, k),
+        4..12 => live_space(&mut s, k),
+        12..16 => dead_space(&mut s, k),
+        16..22 => enrolled_guest(&mut s, k),
+        22..28 => absent_guest(&mut s, k),
+        28..32 => permit(&mut s, k),
+        32..37 => list_entry(&mut s, k),
+        37..44 => cell(&mut s, k),
+        44..47 => access_key(&mut s, k),
+        _ => {}
     }
     s
 }

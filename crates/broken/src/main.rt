@@ -10,9 +10,9 @@ mod trials;
 use model::{Caller, Right, Settings, State};
 use std::rt::Env;
 
+// By value, as the public face takes a state and gives it back.
 fn enrolled(s: State, scratch: &mut [u8], guest: u32, settings: Settings) -> State {
-    let r = spaces::enrol(s, scratch, Caller { guest: guest }, settings);
-    r.state
+    spaces::enrol(s, scratch, Caller { guest }, settings).state
 }
 
 // 8 frames. Guest 1 shares and has ASF; its space TEMP, identification 3 in slot 2, is permitted to guest 2 with read, and guest 2
@@ -61,15 +61,11 @@ fn line(rt: &(impl Env + Print), s: State, k: u32) {
     trials::all(rt, altered::state(s, k), altered::room(k));
 }
 
-fn each_line(rt: &(impl Env + Print), s: State) {
-    for k in 0..altered::COUNT {
-        line(rt, s, k);
-    }
-}
-
 fn main(rt: HostRuntime) {
     let s = shared();
     trials::say(&rt, b"sound:");
     trials::all(&rt, s, 32768);
-    each_line(&rt, s);
+    for k in 0..altered::COUNT {
+        line(&rt, s, k);
+    }
 }

@@ -1,4 +1,5 @@
-// The fifteen calls by their own functions, on one state and with `room` bytes of scratch.
+// The fifteen calls by their own functions, on one state and with `room` bytes of scratch. Each call has the state by value, as the public
+// face takes it: what one call makes of it the next does not see.
 use crate::sums;
 use model::{Answer, Caller, Reply, Right, Settings, State};
 
@@ -13,7 +14,8 @@ fn guest(g: u32) -> Caller {
     Caller { guest: g }
 }
 
-// A write that fails is passed over: whoever compares the output sees what is missing.
+// A write that fails is passed over: whoever compares the output sees what is missing. These lines are in each program that prints,
+// since a crate of theirs would hold nothing else.
 pub(crate) fn say(rt: &impl Print, text: &[u8]) {
     let _ = rt.write_all(text);
 }
@@ -24,23 +26,21 @@ fn number(rt: &impl Print, a: Answer) {
 
 // The tables had the sum `before`.
 fn told(rt: &impl Print, before: u64, r: Reply) {
-    let a = r.answer;
-    let s = r.state;
-    number(rt, a);
-    if sums::sum(s) != before {
+    number(rt, r.answer);
+    if sums::sum(&r.state) != before {
         say(rt, b"+");
     }
 }
 
-fn told_scratch(rt: &impl Print, scratch: &[u8; 32769]) {
-    let filled = [FILLED; 32769];
-    if *scratch != filled {
+// Scratch was filled before the call, and is filled again for the next.
+fn told_scratch(rt: &impl Print, scratch: &mut [u8]) {
+    if scratch.iter().any(|b| *b != FILLED) {
         say(rt, b"*");
     }
+    scratch.fill(FILLED);
 }
 
-fn enrol(rt: &impl Print, s: State, before: u64, room: usize) {
-    let mut scratch = [FILLED; 32769];
+fn enrol(rt: &impl Print, s: State, before: u64, scratch: &mut [u8]) {
     let settings = Settings {
         pages: 1,
         allowance: 0,
@@ -48,61 +48,7 @@ fn enrol(rt: &impl Print, s: State, before: u64, room: usize) {
         list: 1,
         asf: 0,
     };
-    if room <= 32769 {
-        told(
-            rt,
-            before,
-            spaces::enrol(s, &mut scratch[0..room], guest(3), settings),
-        );
-    }
-    told_scratch(rt, &scratch);
-}
-
-fn create(rt: &impl Print, s: State, before: u64, room: usize) {
-    let mut scratch = [FILLED; 32769];
-    if room <= 32769 {
-        told(
-            rt,
-            before,
-            spaces::create(s, &mut scratch[0..room], guest(1), WORK, 1),
-        );
-    }
-    told_scratch(rt, &scratch);
-}
-
-fn destroy(rt: &impl Print, s: State, before: u64, room: usize) {
-    let mut scratch = [FILLED; 32769];
-    if room <= 32769 {
-        told(
-            rt,
-            before,
-            spaces::destroy(s, &mut scratch[0..room], guest(1), 3),
-        );
-    }
-    told_scratch(rt, &scratch);
-}
-
-fn reset(rt: &impl Print, s: State, before: u64, room: usize) {
-    let mut scratch = [FILLED; 32769];
-    if room <= 32769 {
-        told(
-            rt,
-            before,
-            spaces::reset(s, &mut scratch[0..room], guest(1)),
-        );
-    }
-    told_scratch(rt, &scratch);
-}
-
-fn store(rt: &impl Print, s: State, room: usize) {
-    let mut scratch = [FILLED; 32769];
-    if room <= 32769 {
-        number(
-            rt,
-            spaces::store(s, &mut scratch[0..room], guest(1), 0, 0, b"A"),
-        );
-    }
-    told_scratch(rt, &scratch);
+    told(rt, before, spaces::enrol(s, scratch, guest(3), settings));
 }
 
 fn fetch(rt: &impl Print, s: State, scratch: &[u8]) {
@@ -136,18 +82,28 @@ fn behind_reset(rt: &impl Print, s: State, before: u64, scratch: &[u8]) {
     told(rt, before, spaces::block(s, scratch, c, 3, 4095, 15, 1));
 }
 
+// The calls that may change scratch, each of which finds it filled, with those between them.
+fn each(rt: &impl Print, s: State, before: u64, scratch: &mut [u8]) {
+    let c = guest(1);
+    enrol(rt, s, before, scratch);
+    told_scratch(rt, scratch);
+    told(rt, before, spaces::create(s, scratch, c, WORK, 1));
+    told_scratch(rt, scratch);
+    told(rt, before, spaces::destroy(s, scratch, c, 3));
+    told_scratch(rt, scratch);
+    before_fetch(rt, s, before, scratch);
+    fetch(rt, s, scratch);
+    number(rt, spaces::store(s, scratch, c, 0, 0, b"A"));
+    told_scratch(rt, scratch);
+    told(rt, before, spaces::reset(s, scratch, c));
+    told_scratch(rt, scratch);
+    behind_reset(rt, s, before, scratch);
+}
+
 pub(crate) fn all(rt: &impl Print, s: State, room: usize) {
-    let scratch = [FILLED; 32769];
-    let before = sums::sum(s);
-    if room <= 32769 {
-        enrol(rt, s, before, room);
-        create(rt, s, before, room);
-        destroy(rt, s, before, room);
-        before_fetch(rt, s, before, &scratch[0..room]);
-        fetch(rt, s, &scratch[0..room]);
-        store(rt, s, room);
-        reset(rt, s, before, room);
-        behind_reset(rt, s, before, &scratch[0..room]);
+    let mut scratch = [FILLED; 32769];
+    if let Some(lent) = scratch.get_mut(..room) {
+        each(rt, s, sums::sum(&s), lent);
     }
     say(rt, b"\n");
 }

@@ -1,5 +1,5 @@
 -- What the weight of a cell tells, and the highest of many. Assumes nothing.
-use Prim.Native.Nat.{ℕ, zero, suc, ◌+◌, ◌≤◌, ◌<◌}
+use Prim.Native.Nat.{ℕ, zero, suc, max, ◌+◌, ◌≤◌, ◌<◌}
 use mathlib.Core.Bool.{Bool, true, false}
 use mathlib.Core.Logic.{◌⊎◌, inl, inr, ⊎_elim}
 use mathlib.Core.Path.{◌≡◌, refl, ap, ◌∙◌}
@@ -31,6 +31,9 @@ larger_right m n = ⊎_elim (λ (l, e). omega arith) (λ (l, e). omega arith) (l
 
 larger_most : (m n b : ℕ) → m ≤ b → n ≤ b → larger m n ≤ b
 larger_most m n b p q = ⊎_elim (λ (l, e). omega arith) (λ (l, e). omega arith) (larger_is m n)
+
+pub max_larger : (m n : ℕ) → max m n ≡ larger m n
+max_larger m n = ⊎_elim (λ (l, e). omega arith) (λ (l, e). omega arith) (larger_is m n)
 
 -- a mark as a number
 unmarked : (m : Bool) → one_if m ≤ 0 → m ≡ false
@@ -83,9 +86,9 @@ module _ (f : ℕ → ℕ) where
   unfolding most_of
   most_start = refl
 
-  pub most_go : (m k y : ℕ) → m ≡ most_of f k → y ≡ larger m (f k) → y ≡ most_of f (k + 1)
+  pub most_go : (m k y : ℕ) → m ≡ most_of f k → y ≡ max m (f k) → y ≡ most_of f (k + 1)
   unfolding most_of
-  most_go m k y e v = let q : k + 1 ≡ suc k = omega arith in rw q (v ∙ ap (λ x. larger x (f k)) e)
+  most_go m k y e v = let q : k + 1 ≡ suc k = omega arith in rw q (v ∙ max_larger m (f k) ∙ ap (λ x. larger x (f k)) e)
 
   pub most_end : (m k n : ℕ) → m ≡ most_of f k → k ≤ n → n ≤ k → m ≡ most_of f n
   most_end m k n e l h = let q : k ≡ n = omega arith in rw q at e

@@ -1,5 +1,4 @@
--- One space withdrawn: what the loops over ranges have made of the permits, of the entries and of the cells is what the model
--- says. Assumes nothing.
+-- One space withdrawn: what the loops over ranges have made of the entries is what the model says. Assumes nothing.
 use Prim.Native.Nat.{ℕ, ◌+◌, ◌-◌, ◌*◌, ◌/◌, ◌≤◌, ◌<◌}
 use mathlib.Core.Bool.{false, not}
 use mathlib.Core.List.{List}
@@ -13,22 +12,13 @@ use Rattle.lists.specs.Choice.{choose, both}
 use Rattle.lists.specs.Places.{map_places}
 use Rattle.lists.proofs.Choice.{true_false, yes!, no!, both_left, both_intro, both_comm, both_yes, both_not, choose_elim}
 use Rattle.lists.proofs.Maps.{map_below, map_alike}
-use Rattle.model.specs.declared.Cell.{Cell}
 use Rattle.model.specs.declared.Entry.{Entry}
-use Rattle.model.specs.declared.Permit.{Permit}
-use Rattle.model.specs.Changes.{revoked, list_owner, unpermitted, blanked, revoked_all}
-use Rattle.model.specs.Tables.{no_permit, unused_entry, no_cell}
+use Rattle.model.specs.Changes.{revoked, list_owner, revoked_all}
+use Rattle.model.specs.Tables.{unused_entry}
 use Rattle.model.proofs.Reset.{standing_stays}
-use Rattle.model.specs.Leaves.{in_run}
 use Rattle.losses.specs.Looks.{kept_list}
 use Rattle.closing.specs.Slot.{loses_slot}
 use Rattle.closing.proofs.Ranges.{map_map, map_range, before, inside, beyond, Ranged, range_start, range_go, range_length}
-use Rattle.closing.proofs.Runs.{run_put, slot_run}
-
--- The eight permits of a slot go.
-permits_gone : (ps : List Permit) (u k : ℕ) → k ≡ u * 8 + 8 → map_range (λ p. no_permit) (u * 8) k ps ≡ unpermitted (eqb u) ps
-unfolding unpermitted
-permits_gone ps u k e = run_put no_permit (u * 8) 8 k ps e ∙ map_alike _ _ ps (λ j p _. ap (λ t. choose t no_permit p) (slot_run u j))
 
 -- The entries of all lists but one change.
 lists_but : (f : Entry → Entry) (es : List Entry) (kept m n : ℕ) → length es ≡ 240 → m ≡ kept * 30 → 240 ≤ n
@@ -83,31 +73,17 @@ lists_kept : (g u : ℕ) (es : List Entry) → length es ≡ 240 → map_places 
 unfolding revoked_all
 lists_kept g u es len = map_alike _ _ es (λ j e b. rw (kept_is g (j / 30) (omega arith)) (one_list g u (list_owner j) e))
 
--- For search: one turn of each loop, and the places that it comes to.
-pub permits_go : (ps t : List Permit) (u k : ℕ) (p : Permit) → Ranged (λ p. no_permit) (u * 8) k ps t → p ≡ no_permit → length ps ≡ 256 → u < 32 → k < u * 8 + 8
-    → Ranged (λ p. no_permit) (u * 8) (k + 1) ps (set t k p)
-permits_go ps t u k p r e len l h = range_go (λ p. no_permit) (u * 8) k ps t p no_permit r e (omega arith)
-
+-- For search: one turn of a loop, and the places that it comes to.
 pub entries_go : (u : ℕ) (es t : List Entry) (i k : ℕ) (e : Entry) → Ranged (revoked (eqb u)) i k es t → e ≡ revoked (eqb u) (get_or t k unused_entry) → length es ≡ 240 → k < 240
     → Ranged (revoked (eqb u)) i (k + 1) es (set t k e)
 entries_go u es t i k e r q len h = range_go (revoked (eqb u)) i k es t e unused_entry r q (omega arith)
 
-pub cells_go : (cs t : List Cell) (i e f : ℕ) (c : Cell) → Ranged (λ c. no_cell) i f cs t → c ≡ no_cell → length cs ≡ 512 → e ≤ 512 → f < e → Ranged (λ c. no_cell) i (f + 1) cs (set t f c)
-cells_go cs t i e f c r q len room h = range_go (λ c. no_cell) i f cs t c no_cell r q (omega arith)
-
 pub entry_inside : (list k : ℕ) → list ≤ 8 → k < list * 30 → k < 240
 entry_inside list k h l = omega arith
 
-pub ruleset turns = (range_start, range_length, permits_go, entries_go, cells_go, entry_inside)
+pub ruleset turns = (range_start, range_length, entries_go, entry_inside)
 
 -- For search: the loops have ended.
-pub permits_done : (ps t : List Permit) (u k : ℕ) → Ranged (λ p. no_permit) (u * 8) k ps t → k ≤ u * 8 + 8 → u * 8 + 8 ≤ k → t ≡ unpermitted (eqb u) ps
-permits_done ps t u k r l h = r.same ∙ permits_gone ps u k (omega arith)
-
-pub cells_done : (cs t : List Cell) (i n f : ℕ) → Ranged (λ c. no_cell) i f cs t → f ≤ i + n → i + n ≤ f → t ≡ blanked (in_run i n) cs
-unfolding blanked
-cells_done cs t i n f r l h = r.same ∙ run_put no_cell i n f cs (omega arith)
-
 pub entries_done : (es a b : List Entry) (g list u m n : ℕ) → length es ≡ 240 → list ≡ kept_list g → Ranged (revoked (eqb u)) 0 m es a → m ≤ list * 30 → list * 30 ≤ m
     → Ranged (revoked (eqb u)) (list * 30 + 30) n a b → 240 ≤ n → b ≡ revoked_all (loses_slot g u) es
 entries_done es a b g list u m n len q below l h above e =

@@ -1,3 +1,2 @@
 pub mod Touches
 pub mod Served
-pub mod Decided

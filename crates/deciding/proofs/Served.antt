@@ -56,7 +56,22 @@ module _ (s : State) (c : Caller) (k : Operation) (m b : List ℕ) where
       → m' ≡ scratch_judged s (call_of c k) m b → Served s (call_of c k) (reply a s) m b m' b
   stored lt lb a m' e f = record { reply = replied_kept (length b) a lt e; scratch = f; buffer = sym (buffer_kept s c k m b lb) }
 
--- tables and frames, of a call whose operation is known
-pub cleared_as : (s : State) (k : Call) (m b : List ℕ) (o : Operation) → Unmoving (touch o) → LeavesBuffer (touch o) → (r : Reply) (m' : List ℕ) → k.operation ≡ o
-    → Carried s (judge s (call_of k.caller o) 0) r m m' → Served s k r m b m' b
-cleared_as s k m b o u lb r m' e = rw e (cleared s k.caller o m b u lb r m')
+-- the same of a call whose operation is known
+module _ (s : State) (k : Call) (m b : List ℕ) (o : Operation) (is : k.operation ≡ o) where
+  pub still_as : Unmoving (touch o) → LeavesScratch (touch o) → LeavesBuffer (touch o) → (r : Reply) → r ≡ replied s (judge s (call_of k.caller o) 0) → Served s k r m b m b
+  still_as u ls lb r e = rw is (still s k.caller o m b u ls lb r e)
+
+  pub asked_as : Unmoving (touch o) → LeavesTables (touch o) → LeavesScratch (touch o) → LeavesBuffer (touch o) → (a : Answer)
+      → a ≡ (judge s (call_of k.caller o) 0).answer → Served s k (reply a s) m b m b
+  asked_as u lt ls lb a e = rw is (asked s k.caller o m b u lt ls lb a e)
+
+  pub cleared_as : Unmoving (touch o) → LeavesBuffer (touch o) → (r : Reply) (m' : List ℕ) → Carried s (judge s (call_of k.caller o) 0) r m m' → Served s k r m b m' b
+  cleared_as u lb r m' e = rw is (cleared s k.caller o m b u lb r m' e)
+
+  pub fetched_as : LeavesTables (touch o) → LeavesScratch (touch o) → (a : Answer) (b' : List ℕ) → a ≡ (judge s (call_of k.caller o) (length b)).answer
+      → b' ≡ buffer_judged s (call_of k.caller o) m b → Served s k (reply a s) m b m b'
+  fetched_as lt ls a b' e f = rw is (fetched s k.caller o m b lt ls a b' e f)
+
+  pub stored_as : LeavesTables (touch o) → LeavesBuffer (touch o) → (a : Answer) (m' : List ℕ) → a ≡ (judge s (call_of k.caller o) (length b)).answer
+      → m' ≡ scratch_judged s (call_of k.caller o) m b → Served s k (reply a s) m b m' b
+  stored_as lt lb a m' e f = rw is (stored s k.caller o m b lt lb a m' e f)

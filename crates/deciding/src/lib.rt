@@ -1,72 +1,45 @@
-// Any call on what it sees of the tables: decided, and its bytes moved. What it changes in the tables is left to whoever owns
-// them, and so is a call that asks for whole tables.
+// Any call on a sound state with its scratch: each goes to the function that carries it out.
 #![tactic(auto)]
 
-ghost use Rattle.std.specs.Prelude.{◌≡◌};
-ghost use Rattle.transfer.specs.Transferred.{RunIn};
-ghost use Rattle.edits.specs.declared.Edit.TheVariants.{Nothing};
-ghost use Rattle.deciding.specs.declared.Decision.TheVariants.{Made};
-ghost use Rattle.deciding.specs.Decisions.{DecidedTo};
+ghost use Rattle.std.specs.Prelude.{◌*◌, ◌≡◌, length};
+ghost use Rattle.model.specs.Replies.{reply};
+ghost use Rattle.deciding.specs.Served.{Served};
 
-use edits::{Edit, Edited};
-use lookup::Owned;
-use model::{Answer, Operation};
-use views::View;
+use model::{Answer, Call, Operation};
+use sound::Sound;
 
-// Decided, with an edit to be stored; done, where a space is to be closed; or left.
-#[derive(Clone, Copy)]
-pub enum Decision {
-    Made { edited: Edited },
-    Closes { slot: u8 },
-    NeedsTables,
-}
-
-fn made(edited: Edited) -> Decision
-    ensures { result ≡ Made edited }
+// `scratch` and `buffer` are the machine's frames and the call's own buffer. The length of scratch is asked here, and is no invariant of
+// Sound, since it goes by what is lent beside the state.
+pub fn serve(s: &mut Sound, scratch: &mut [u8], call: &Call, buffer: &mut [u8]) -> Answer
+    requires { length scratch.old ≡ s.old.state.now.frames * 4096 }
+    ensures same_state { s.new.state.ghost_name ≡ s.old.state.ghost_name }
+    ensures served { Served s.old.state.now call.now (reply result s.new.state.now) scratch.old buffer.old scratch.new buffer.new }
 {
-    Decision::Made { edited }
-}
-
-// No table changes.
-fn unchanged(answer: Answer) -> Decision
-    ensures { result ≡ Made (record { answer = answer; edit = Nothing }) }
-{
-    let edited = Edited {
-        answer: answer,
-        edit: Edit::Nothing,
-    };
-    Decision::Made { edited }
-}
-
-// `scratch` and `buffer` are the machine's frames and the call's own buffer.
-pub fn decide(v: View, scratch: &mut [u8], operation: Operation, buffer: &mut [u8]) -> Decision
-    requires { RunIn v.space scratch.old }
-    ensures { DecidedTo v operation scratch.old buffer.old result scratch.new buffer.new }
-{
-    match operation {
-        Operation::Permit { id, guest, right } => made(rights::decide_permit(v, id, guest, right)),
-        Operation::Isolate { id } => match rights::decide_isolate(v, id) {
-            Owned::Refused(refusal) => unchanged(refusal),
-            Owned::At { slot } => Decision::Closes { slot },
-        },
-        Operation::Query { owner, name } => made(rights::decide_query(v, owner, name)),
-        Operation::Add { id, right } => made(rights::decide_add(v, id, right)),
-        Operation::Remove { token } => made(rights::decide_remove(v, token)),
-        Operation::Load { register, value } => made(cpus::decide_load(v, register, value)),
-        Operation::Mode { mode } => made(cpus::decide_mode(v, mode)),
+    let caller = call.caller;
+    match call.operation {
+        Operation::Enrol { settings } => enrolling::enrol(s, scratch, caller, settings),
+        Operation::Create { name, pages } => creating::create(s, scratch, caller, name, pages),
+        Operation::Destroy { id } => withdrawing::destroy(s, scratch, caller, id),
+        Operation::Permit { id, guest, right } => rights::permit(s, caller, id, guest, right),
+        Operation::Isolate { id } => rights::isolate(s, caller, id),
+        Operation::Query { owner, name } => rights::query(s, caller, owner, name),
+        Operation::Add { id, right } => rights::add(s, caller, id, right),
+        Operation::Remove { token } => rights::remove(s, caller, token),
+        Operation::Load { register, value } => cpus::load(s, caller, register, value),
+        Operation::Mode { mode } => cpus::mode(s, caller, mode),
         Operation::Fetch { register, address } => {
-            unchanged(access::fetch_seen(v, scratch, register, address, buffer))
+            access::fetch(s, scratch, caller, register, address, buffer)
         }
         Operation::Store { register, address } => {
-            unchanged(access::store_seen(v, scratch, register, address, buffer))
+            access::store(s, scratch, caller, register, address, buffer)
         }
-        Operation::Key { key } => made(cpus::decide_key(v, key)),
+        Operation::Reset => withdrawing::reset(s, scratch, caller),
+        Operation::Key { key } => cpus::key(s, caller, key),
         Operation::Block {
             id,
             address,
             key,
             mark,
-        } => made(blocks::decide_block(v, id, address, key, mark)),
-        _ => Decision::NeedsTables,
+        } => blocks::block(s, caller, id, address, key, mark),
     }
 }

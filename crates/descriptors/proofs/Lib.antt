@@ -1,4 +1,3 @@
 -- The laws that the proofs of the crate's functions cite.
-pub mod Signed
 pub mod Came
 pub mod Newlines

@@ -1,14 +1,15 @@
 -- Newlines in joined texts, and a loop that counts them. Assumes nothing.
-use Prim.Native.Nat.{ℕ, ◌+◌, ◌≤◌, ◌<◌}
+use Prim.Native.Nat.{ℕ, ◌+◌, ◌≤◌}
 use mathlib.Core.Bool.{Bool, true, false}
 use mathlib.Core.List.{List, [], ◌∷◌, ◌++◌}
-use mathlib.Core.Path.{◌≡◌, ap}
+use mathlib.Core.Path.{◌≡◌, refl}
+use Rattle.std.proofs.Common.{cond}
+use Rattle.std.specs.List.{count_by}
+use Rattle.std.proofs.lemmas.List.Recursion.{is_count_by}
 use native.Mathlib.Omega.{arith}
 use lib.Dec.{eqb}
-use lib.ListN.{length, drop, get_or}
-use lib.Seq.{drop-length}
+use lib.ListN.{length}
 use Rattle.lists.specs.Places.{one_if}
-use Rattle.lists.proofs.Parts.{drop_next}
 use Rattle.descriptors.specs.Came.{newlines}
 
 one_most : (t : Bool) → one_if t ≤ 1
@@ -26,30 +27,18 @@ unfolding newlines
 newlines_append [] y = omega arith
 newlines_append (b ∷ x) y = let k = newlines_append x y in omega (arith, k)
 
--- n newlines stand before place i
-pub record Newlines (l : List ℕ) (n i : ℕ) : Type 0 where
-  pub within : i ≤ length l
-  pub counted : n + newlines (drop i l) ≡ newlines l
-  pub few : n ≤ i
+step : (t : Bool) (n : ℕ) → one_if t + n ≡ cond t (1 + n) n
+unfolding one_if
+step true n = omega arith
+step false n = omega arith
 
-module _ (l : List ℕ) where
-  pub newlines_start : Newlines l 0 0
-  newlines_start = record { within = omega arith; counted = omega arith; few = omega arith }
+none_in : newlines [] ≡ 0
+unfolding newlines
+none_in = refl
 
-  module _ (n i : ℕ) (s : Newlines l n i) where
-    next_newlines : i < length l → newlines (drop i l) ≡ one_if (eqb (get_or l i 0) 10) + newlines (drop (i + 1) l)
-    unfolding newlines
-    next_newlines k = ap newlines (drop_next l i 0 k)
+one_more : (b : ℕ) (bs : List ℕ) → newlines (b ∷ bs) ≡ cond (eqb b 10) (1 + newlines bs) (newlines bs)
+unfolding newlines
+one_more b bs = step (eqb b 10) (newlines bs)
 
-    pub newlines_go : (y : ℕ) → i < length l → y ≡ one_if (eqb (get_or l i 0) 10) → Newlines l (n + y) (i + 1)
-    newlines_go y k e =
-        record { within = omega arith; counted = omega (arith, s.counted, next_newlines k, e); few = omega (arith, s.few, e, one_most (eqb (get_or l i 0) 10)) }
-
-    none_left : length l ≤ i → newlines (drop i l) ≡ 0
-    unfolding newlines
-    none_left k = let q : i ≡ length l = omega (arith, s.within) in rw (q, drop-length)
-
-    pub newlines_all : length l ≤ i → n ≡ newlines l
-    newlines_all k = omega (arith, s.counted, none_left k)
-
-pub ruleset counted = (newlines_start, newlines_go, newlines_all)
+pub newlines_counted : (l : List ℕ) → newlines l ≡ count_by (λ b. eqb b 10) l
+newlines_counted = is_count_by newlines (λ b. eqb b 10) none_in one_more

@@ -2,95 +2,70 @@
 // promise is exact; what a call reads or writes no promise can say.
 #![tactic(auto)]
 
-ghost use Rattle.std.specs.Prelude.{◌≤◌, ◌≡◌, ◌≢◌, eqb, length, pos, negsuc, IfSome, IfOk, IfErr};
+ghost use Rattle.std.specs.Prelude.{◌≤◌, ◌<◌, ◌≡◌, ◌≢◌, length, pos, negsuc, IfSome, IfOk, IfErr};
 ghost use Rattle.std.specs.IoError.{raw_os_error};
-ghost use Rattle.lists.specs.Places.{one_if};
-ghost use Rattle.descriptors.specs.Came.{below_zero, count_of, error_of, got_of, moved_of, interrupted, bytes_got, place_of, failure_of, newlines};
+ghost use Rattle.descriptors.specs.Came.{came_of, got_of, moved_of, interrupted, bytes_got, place_of, newlines};
 
 use std::io;
 use std::io::{ErrorKind, Read, Write};
 
-// What a read came to.
-#[derive(Clone, Copy)]
-pub enum Got {
-    Bytes { count: usize },
-    End,
+// The system's EINTR: the call was interrupted before it moved anything.
+pub const INTERRUPTED: i32 = 4;
+
+// What the system answers to a call that failed.
+const FAILED: isize = -1;
+
+// Why a call moved nothing.
+#[derive(Clone, Copy, PartialEq, Eq)]
+pub enum Stopped {
     Interrupted,
     Failed { error: u32 },
 }
 
-// What a write came to: the place from which the writing goes on, or a failure. One that was interrupted goes on where it began.
-#[derive(Clone, Copy)]
-pub enum Moved {
-    To { place: usize },
-    Failed { error: u32 },
-}
-
-// How many bytes were written, and where these are not all, the number of the error.
-#[derive(Clone, Copy)]
-pub struct Sent {
+// How many bytes were written of a text that was not written whole, and the number of the error.
+#[derive(Clone, Copy, PartialEq, Eq)]
+pub struct Unsent {
     pub count: usize,
     pub error: u32,
 }
 
-fn is_below_zero(n: isize) -> bool
-    ensures { result ≡ below_zero n }
+// How many bytes a call moved, of at most `most`, by what it answered and the error's number after it. The system's numbers of errors
+// are above 0.
+fn moved_by(answer: isize, error: i32, most: usize) -> Result<usize, Stopped>
+    ensures { result ≡ came_of answer error most }
 {
-    n < 0
-}
-
-// The number of an error; the system's are above 0.
-fn error_of(error: i32) -> u32
-    ensures { result ≡ error_of error }
-{
-    if error > 0 {
-        return error as u32;
+    match usize::try_from(answer) {
+        Ok(n) => Ok(n.min(most)),
+        Err(_) if error == INTERRUPTED => Err(Stopped::Interrupted),
+        Err(_) => Err(Stopped::Failed {
+            error: u32::try_from(error).unwrap_or(0),
+        }),
     }
-    0
 }
 
-// The bytes that an answer counts, at most as many as there are.
-fn count(answer: isize, bytes: &[u8]) -> usize
-    ensures { result ≡ count_of answer (length bytes.now) }
-{
-    if answer < 0 {
-        return 0;
-    }
-    (answer as usize).min(bytes.len())
-}
-
-// The meaning of what a read into `room` answered, where `error` is the error's number after it.
-pub fn read_came(answer: isize, error: i32, room: &[u8]) -> Got
+// The meaning of what a read into `room` answered, where `error` is the error's number after it: so many bytes, or none at the end of
+// the input.
+pub fn read_came(answer: isize, error: i32, room: &[u8]) -> Result<Option<usize>, Stopped>
     ensures { result ≡ got_of answer error (length room.now) }
 {
-    if is_below_zero(answer) {
-        let e = error_of(error);
-        if e == 4 {
-            return Got::Interrupted;
-        }
-        return Got::Failed { error: e };
-    }
-    let n = count(answer, room);
+    let n = moved_by(answer, error, room.len())?;
     if n == 0 {
-        return Got::End;
+        return Ok(None);
     }
-    Got::Bytes { count: n }
+    Ok(Some(n))
 }
 
-// The meaning of what a write of the bytes from `at` on answered.
-pub fn write_came(answer: isize, error: i32, bytes: &[u8], at: usize) -> Moved
+// The meaning of what a write of the bytes from `at` on answered: the place from which the writing goes on, or the number of the
+// error. One that was interrupted goes on where it began.
+pub fn write_came(answer: isize, error: i32, bytes: &[u8], at: usize) -> Result<usize, u32>
     requires { at ≤ length bytes.now }
     ensures { result ≡ moved_of answer error (length bytes.now) at }
 {
-    if is_below_zero(answer) {
-        let e = error_of(error);
-        if e == 4 {
-            return Moved::To { place: at };
-        }
-        return Moved::Failed { error: e };
+    match moved_by(answer, error, bytes.len() - at) {
+        Ok(n) => Ok(at + n),
+        Err(Stopped::Interrupted) => Ok(at),
+        Err(Stopped::Failed { error }) => Err(error),
     }
-    let n = count(answer, &bytes[at..]);
-    Moved::To { place: at + n }
 }
 
 // The number of the system's error. Another error has none, and counts as the system's where it says that it was interrupted.
@@ -108,13 +83,14 @@ fn number_of_kind(kind: ErrorKind) -> i32
     ensures other { kind ≢ ErrorKind.Interrupted → result ≡ pos 0 }
 {
     if kind == ErrorKind::Interrupted {
-        return 4;
+        INTERRUPTED
+    } else {
+        0
     }
-    0
 }
 
-// What std answers to a read, as the system said it: a count, or -1 and the error's number.
-fn read_answered(answer: io::Result<usize>, room: &[u8]) -> Got
+// What std answers to a read, as the system said it: a count, or a failure and the error's number.
+fn read_answered(answer: io::Result<usize>, room: &[u8]) -> Result<Option<usize>, Stopped>
     requires { IfOk answer (λ n. n ≤ length room.now) }
     ensures counted { IfOk answer (λ n. result ≡ got_of (pos n) (pos 0) (length room.now)) }
     ensures failed { IfErr answer (λ e. IfSome (raw_os_error e) (λ n. result ≡ got_of (negsuc 0) n (length room.now))) }
@@ -122,12 +98,12 @@ fn read_answered(answer: io::Result<usize>, room: &[u8]) -> Got
 {
     match answer {
         Ok(n) => read_came(n as isize, 0, room),
-        Err(error) => read_came(-1, number_of(&error), room),
+        Err(error) => read_came(FAILED, number_of(&error), room),
     }
 }
 
 // One read.
-fn read_once<R: Read>(from: &mut R, room: &mut [u8]) -> Got
+fn read_once<R: Read>(from: &mut R, room: &mut [u8]) -> Result<Option<usize>, Stopped>
     ensures { bytes_got result ≤ length room.old }
 {
     let answer = from.read(room);
@@ -135,20 +111,15 @@ fn read_once<R: Read>(from: &mut R, room: &mut [u8]) -> Got
 }
 
 // Whether a read is made again.
-fn is_interrupted(got: Got) -> bool
+fn is_interrupted(got: Result<Option<usize>, Stopped>) -> bool
     ensures { result ≡ interrupted got }
 {
-    match got {
-        Got::Bytes { count: _ } => false,
-        Got::End => false,
-        Got::Interrupted => true,
-        Got::Failed { error: _ } => false,
-    }
+    matches!(got, Err(Stopped::Interrupted))
 }
 
 // Reads some bytes. A read that was interrupted is made again. A proved loop has to end, so this one and the next count their turns,
 // up to a number that no run reaches.
-pub fn read_some<R: Read>(from: &mut R, room: &mut [u8]) -> Got
+pub fn read_some<R: Read>(from: &mut R, room: &mut [u8]) -> Result<Option<usize>, Stopped>
     ensures { bytes_got result ≤ length room.old }
 {
     let mut last = read_once(from, room);
@@ -161,8 +132,8 @@ pub fn read_some<R: Read>(from: &mut R, room: &mut [u8]) -> Got
     last
 }
 
-// The same of a write of the bytes from `at` on.
-fn write_answered(answer: io::Result<usize>, bytes: &[u8], at: usize) -> Moved
+// The same of a write of the bytes from `at` on. What a read and a write share is `moved_by`; what each is turned into differs.
+fn write_answered(answer: io::Result<usize>, bytes: &[u8], at: usize) -> Result<usize, u32>
     requires at_inside { at ≤ length bytes.now }
     requires no_more { IfOk answer (λ n. n ≤ length bytes.now) }
     ensures counted { IfOk answer (λ n. result ≡ moved_of (pos n) (pos 0) (length bytes.now) at) }
@@ -171,12 +142,12 @@ fn write_answered(answer: io::Result<usize>, bytes: &[u8], at: usize) -> Moved
 {
     match answer {
         Ok(n) => write_came(n as isize, 0, bytes, at),
-        Err(error) => write_came(-1, number_of(&error), bytes, at),
+        Err(error) => write_came(FAILED, number_of(&error), bytes, at),
     }
 }
 
 // One write, of the bytes from `at` on.
-fn write_once<W: Write>(to: &mut W, bytes: &[u8], at: usize) -> Moved
+fn write_once<W: Write>(to: &mut W, bytes: &[u8], at: usize) -> Result<usize, u32>
     requires { at ≤ length bytes.now }
     ensures { place_of at result ≤ length bytes.now }
 {
@@ -184,57 +155,30 @@ fn write_once<W: Write>(to: &mut W, bytes: &[u8], at: usize) -> Moved
     write_answered(answer, bytes, at)
 }
 
-fn error_in(moved: Moved) -> u32
-    ensures { result ≡ failure_of moved }
-{
-    match moved {
-        Moved::Failed { error } => error,
-        Moved::To { place: _ } => 0,
-    }
-}
-
 // Writes all of the bytes: a write that moved a part, or none, goes on from where it stopped. Only a failure ends it before.
-pub fn send<W: Write>(to: &mut W, bytes: &[u8]) -> Sent
-    ensures { result.count ≤ length bytes.now }
+#[tactic(auto, unfolding(crate::specs::Came::place_of))]
+pub fn send<W: Write>(to: &mut W, bytes: &[u8]) -> Result<(), Unsent>
+    ensures { IfErr result (λ e. e.count < length bytes.now) }
 {
     let mut at: usize = 0;
     for _ in 0..u64::MAX {
         if at == bytes.len() {
-            break;
+            return Ok(());
         }
-        let moved = write_once(to, bytes, at);
-        let Moved::To { place } = moved else {
-            return Sent {
-                count: at,
-                error: error_in(moved),
-            };
-        };
-        at = place;
+        at = write_once(to, bytes, at).map_err(|error| Unsent { count: at, error })?;
     }
-    Sent {
+    if at == bytes.len() {
+        return Ok(());
+    }
+    Err(Unsent {
         count: at,
         error: 0,
-    }
-}
-
-fn one_if(byte: u8) -> usize
-    ensures { (result ≡ one_if (eqb byte 10)) × (result ≤ 1) }
-{
-    if byte == 10 {
-        return 1;
-    }
-    0
+    })
 }
 
 // How many lines end among the bytes.
 pub fn newlines_in(bytes: &[u8]) -> usize
     ensures { (result ≡ newlines bytes.now) × (result ≤ length bytes.now) }
 {
-    let mut n: usize = 0;
-    let mut i: usize = 0;
-    while i < bytes.len() {
-        n += one_if(bytes[i]);
-        i += 1;
-    }
-    n
+    bytes.iter().filter(|b| **b == b'\n').count()
 }

@@ -1,5 +1,5 @@
 -- Decimal text by its last digit, and what holds at each turn of the loops that count and write digits. Assumes nothing.
-use Prim.Native.Nat.{ℕ, zero, suc, ◌+◌, ◌-◌, ◌^◌, ◌/◌, ◌%◌, ◌≤◌, ◌<◌}
+use Prim.Native.Nat.{ℕ, zero, suc, ◌+◌, ◌*◌, ◌-◌, ◌^◌, ◌/◌, ◌%◌, ◌≤◌, ◌<◌}
 use mathlib.Core.List.{List, [], ◌∷◌, ◌++◌, append-nil, append_assoc}
 use mathlib.Core.Path.{◌≡◌, refl, sym, ap, ◌∙◌}
 use native.Mathlib.Decide.{dec_le}
@@ -78,110 +78,87 @@ digits_some =
     (λ n h. omega (arith, digits_one n h))
     (λ n h w p. omega (arith, digits_more n h w))
 
-pub few_one : (n : ℕ) → n < 10 → 1 ≡ length (decimal n)
-few_one n h = sym (digits_one n h)
+pow_pos_ten : (k : ℕ) → 1 ≤ 10 ^ k
+pow_pos_ten zero = omega arith
+pow_pos_ten (suc k) = omega (arith, pow-suc 10 k, pow_pos_ten k)
 
-pub few_two : (n : ℕ) → 10 ≤ n → n < 100 → 2 ≡ length (decimal n)
-few_two n l h = omega (arith, digits_more n l (omega arith), few_one (n / 10) (omega arith))
+pub count_by : (k n : ℕ) → Wide n → 10 ^ k ≤ n → n < 10 * 10 ^ k → length (decimal n) ≡ k + 1
+count_by zero n w l h = digits_one n (omega arith)
+count_by (suc k) n w l h =
+    let p = pow-suc 10 k in
+    digits_more n (omega (arith, p, pow_pos_ten k)) w ∙ omega (arith, count_by k (n / 10) (omega (arith, w)) (omega (arith, p)) (omega (arith, p)))
 
-pub few_three : (n : ℕ) → 100 ≤ n → n < 1000 → 3 ≡ length (decimal n)
-few_three n l h = omega (arith, digits_more n (omega arith) (omega arith), few_two (n / 10) (omega arith) (omega arith))
+pub count_zero : (n : ℕ) → n ≡ 0 → length (decimal n) ≡ 1
+count_zero n e = digits_one n (omega arith)
 
-pub few_four : (n : ℕ) → 1000 ≤ n → n < 10000 → 4 ≡ length (decimal n)
-few_four n l h = omega (arith, digits_more n (omega arith) (omega arith), few_three (n / 10) (omega arith) (omega arith))
-
-digits_four_more : (n : ℕ) → 10000 ≤ n → Wide n → length (decimal n) ≡ length (decimal (n / 10000)) + 4
-digits_four_more n h w =
-    let e : n / 10 / 10 / 10 / 10 ≡ n / 10000 = omega arith in
-    let d : length (decimal (n / 10 / 10 / 10 / 10)) ≡ length (decimal (n / 10000)) = ap (λ x. length (decimal x)) e in
-    omega (
-      arith,
-      d,
-      digits_more n (omega arith) w,
-      digits_more (n / 10) (omega arith) (omega arith),
-      digits_more (n / 10 / 10) (omega arith) (omega arith),
-      digits_more (n / 10 / 10 / 10) (omega arith) (omega arith),
-    )
-
--- k digits of n are counted, and those of rest are left
-pub record Counted (n rest k : ℕ) : Type 0 where
-  pub wide : Wide rest
-  pub sum : length (decimal n) ≡ k + length (decimal rest)
-  pub few : k ≤ 20
-
-pub count_start : (n : ℕ) → Wide n → Counted n n 0
-count_start n w = record { wide = w; sum = omega arith; few = omega arith }
-
-pub count_turn : (n rest k : ℕ) → Counted n rest k → 10000 ≤ rest → Counted n (rest / 10000) (k + 4)
-count_turn n rest k c h =
-    let d = digits_four_more rest h c.wide in
-    record { wide = omega (arith, c.wide); sum = omega (arith, c.sum); few = omega (arith, c.sum, decimal_short n) }
-
-pub count_end : (n rest k r : ℕ) → Counted n rest k → r ≡ length (decimal rest) → k + r ≡ length (decimal n)
-count_end n rest k r c e = omega (arith, c.sum)
-
-pub count_some : (n rest k r : ℕ) → Counted n rest k → r ≡ length (decimal rest) → 1 ≤ k + r
-count_some n rest k r c e = omega (arith, digits_some rest c.wide)
-
-pub count_few : (n rest k r : ℕ) → Counted n rest k → r ≡ length (decimal rest) → k + r ≤ 20
-count_few n rest k r c e = omega (arith, c.sum, decimal_short n)
-
--- The digits of rest are still to be written, the last of them at i; t is o with the others.
+-- The digits from place i on are written, and t is o with them; those of rest are still to be written before it.
 pub record Digits (o : List ℕ) (a n : ℕ) (t : List ℕ) (i rest : ℕ) : Type 0 where
   pub tail : List ℕ
   pub whole : decimal n ≡ decimal rest ++ tail
+  pub left : i ≡ a + length (decimal rest)
   pub wide : Wide rest
-  pub last : i + 1 ≡ a + length (decimal rest)
+  pub inside : i ≤ length o
   pub room : a + length (decimal n) ≤ length o
-  pub inside : i < length t
   pub long : length t ≡ length o
-  pub bytes : t ≡ over o (i + 1) tail
+  pub bytes : t ≡ over o i tail
 
-pub digits_start : (o : List ℕ) (a n k : ℕ) → Wide n → k ≡ length (decimal n) → a + 20 ≤ length o → Digits o a n o (a + k - 1) n
+pub digits_start : (o : List ℕ) (a n k : ℕ) → Wide n → k ≡ length (decimal n) → a + 20 ≤ length o → Digits o a n o (a + k) n
 digits_start o a n k w e h =
-    let s = digits_some n w in
     let d = decimal_short n in
     record {
       tail = [];
       whole = sym (append-nil (decimal n));
+      left = omega arith;
       wide = w;
-      last = omega arith;
-      room = omega arith;
       inside = omega arith;
+      room = omega arith;
       long = refl;
-      bytes = over_none o (a + k - 1 + 1);
+      bytes = over_none o (a + k);
     }
 
--- there is a place before the last one where more than one digit is left
-pub digits_down : (o : List ℕ) (a n : ℕ) (t : List ℕ) (i rest : ℕ) → Digits o a n t i rest → 10 ≤ rest → 1 ≤ i
-digits_down o a n t i rest c h =
-    omega (arith, c.last, digits_more rest h c.wide, digits_some (rest / 10) (omega (arith, c.wide)))
+-- where one place is left, one digit is; where more are, more are
+digits_first : (n : ℕ) → Wide n → length (decimal n) ≤ 1 → n < 10
+digits_first n w h = go (dec_le 10 n)
+  where
+    go : Dec (10 ≤ n) → n < 10
+    go (yes l) = absurd (omega (arith, digits_more n l w, digits_some (n / 10) (omega arith)))
+    go (no l) = omega arith
 
-pub digits_turn : (o : List ℕ) (a n : ℕ) (t : List ℕ) (i rest : ℕ) → Digits o a n t i rest → 10 ≤ rest
-    → Digits o a n (set t i (48 + rest % 10)) (i - 1) (rest / 10)
-digits_turn o a n t i rest c h =
-    let d = 48 + rest % 10 in
-    let l : length (set t i d) ≡ length t = length-set t i d in
-    let p = digits_down o a n t i rest c h in
-    let e : i - 1 + 1 ≡ i = omega arith in
-    record {
-      tail = d ∷ c.tail;
-      whole = c.whole ∙ rw (decimal_more rest h c.wide, append_assoc);
-      wide = omega (arith, c.wide);
-      last = omega (arith, c.last, digits_more rest h c.wide);
-      room = c.room;
-      inside = omega (arith, c.inside);
-      long = l ∙ c.long;
-      bytes = rw (e, c.bytes) (over_before_one o i d c.tail (omega (arith, c.inside, c.long)));
-    }
+digits_others : (n : ℕ) → 1 < length (decimal n) → 10 ≤ n
+digits_others n h = go (dec_le 10 n)
+  where
+    go : Dec (10 ≤ n) → 10 ≤ n
+    go (yes l) = l
+    go (no l) = absurd (omega (arith, digits_one n (omega arith)))
 
-pub digits_end : (o : List ℕ) (a n k : ℕ) (t : List ℕ) (i rest : ℕ) → Digits o a n t i rest → rest < 10 → k ≡ length (decimal n)
-    → Wrote o a (decimal n) (set t i (48 + rest)) (a + k)
-digits_end o a n k t i rest c h e =
-    let p : i ≡ a = omega (arith, c.last, digits_one rest h) in
-    let w : decimal n ≡ (48 + rest) ∷ c.tail = c.whole ∙ ap (λ x. x ++ c.tail) (decimal_one rest h) in
-    record {
-      room = c.room;
-      place = omega arith;
-      bytes = rw (c.bytes, w, ← p) (over_before_one o i (48 + rest) c.tail (omega (arith, c.inside, c.long)));
-    }
+module _ (o : List ℕ) (a n : ℕ) (t : List ℕ) (i rest : ℕ) (c : Digits o a n t i rest) where
+  -- one digit more, right before those written
+  written : (d : ℕ) → 1 ≤ i → set t (i - 1) d ≡ over o (i - 1) (d ∷ c.tail)
+  written d h =
+      let e : i ≡ i - 1 + 1 = omega arith in
+      ap (λ x. set x (i - 1) d) (c.bytes ∙ ap (λ j. over o j c.tail) e) ∙ over_before_one o (i - 1) d c.tail (omega (arith, c.inside))
+
+  pub digits_turn : a + 1 < i → Digits o a n (set t (i - 1) (48 + rest % 10)) (i - 1) (rest / 10)
+  digits_turn h =
+      let l = digits_others rest (omega (arith, c.left)) in
+      let d = 48 + rest % 10 in
+      record {
+        tail = d ∷ c.tail;
+        whole = c.whole ∙ rw (decimal_more rest l c.wide, append_assoc);
+        left = omega (arith, c.left, digits_more rest l c.wide);
+        wide = omega (arith, c.wide);
+        inside = omega (arith, c.inside);
+        room = c.room;
+        long = length-set t (i - 1) d ∙ c.long;
+        bytes = written d (omega arith);
+      }
+
+  pub digits_last : i ≤ a + 1 → rest < 10
+  digits_last h = digits_first rest c.wide (omega (arith, c.left))
+
+  pub digits_end : (k : ℕ) → i ≤ a + 1 → k ≡ length (decimal n) → Wrote o a (decimal n) (set t a (48 + rest)) (a + k)
+  digits_end k h e =
+      let l = digits_last h in
+      let p : i - 1 ≡ a = omega (arith, c.left, digits_one rest l) in
+      let w : decimal n ≡ (48 + rest) ∷ c.tail = c.whole ∙ ap (λ x. x ++ c.tail) (decimal_one rest l) in
+      record { room = c.room; place = omega arith; bytes = rw (w, ← p) (written (48 + rest) (omega (arith, c.left, digits_one rest l))) }

@@ -4,11 +4,11 @@ use mathlib.Core.List.{List, [], ◌∷◌, ◌++◌}
 use mathlib.Core.Path.{◌≡◌, refl, sym, ap, ◌∙◌}
 use native.Mathlib.Numerals.{add-one}
 use native.Mathlib.Omega.{arith}
-use lib.ListN.{length, get_or, take}
+use lib.ListN.{length, get_or, set, take, length-set}
 use lib.Seq.{take-suc, take_all}
 use Rattle.model.specs.Session.{hex_letter, hex_text}
 use Rattle.digits.specs.Wrote.{Wrote}
-use Rattle.digits.proofs.Writing.{wrote_none, wrote_long, wrote_more}
+use Rattle.digits.proofs.Writing.{wrote_none, wrote_one, wrote_long, wrote_more}
 
 pub hex_append : (x y : List ℕ) → hex_text (x ++ y) ≡ hex_text x ++ hex_text y
 unfolding hex_text
@@ -21,34 +21,34 @@ hex_length [] = refl
 hex_length (b ∷ x) = omega (arith, hex_length x)
 
 -- the two letters of a byte
-pub pair_done : {o o₁ o₂ : List ℕ} {a b c x y : ℕ} (v : ℕ) → x ≡ hex_letter (v / 16) → y ≡ hex_letter (v % 16) → Wrote o a (x ∷ []) o₁ b → Wrote o₁ b (y ∷ []) o₂ c
-    → Wrote o a (hex_text (v ∷ [])) o₂ c
+pair_set : (t : List ℕ) (p v : ℕ) {y z : ℕ} → p + 2 ≤ length t → y ≡ hex_letter (v / 16) → z ≡ hex_letter (v % 16)
+    → Wrote t p (hex_text (v ∷ [])) (set (set t p y) (p + 1) z) (p + 2)
 unfolding hex_text
-pair_done v e f p q = rw (← e, ← f) (wrote_more p q)
+pair_set t p v {y} {z} h e f =
+    let q : p + 1 + 1 ≡ p + 2 = omega arith in
+    let l = length-set t p y in
+    let w : Wrote t p (y ∷ z ∷ []) (set (set t p y) (p + 1) z) (p + 1 + 1) =
+    wrote_more (wrote_one t p y (omega arith)) (wrote_one (set t p y) (p + 1) z (omega (arith, l))) in
+    rw (← e, ← f, ← q) w
 
--- i of the bytes x are written, up to place p
-pub record Paired (o : List ℕ) (a : ℕ) (x t : List ℕ) (p i : ℕ) : Type 0 where
+-- i of the bytes x are written
+pub record Paired (o : List ℕ) (a : ℕ) (x t : List ℕ) (i : ℕ) : Type 0 where
   pub below : i ≤ length x
-  pub place : p ≡ a + 2 * i
   pub long : length t ≡ length o
-  pub text : Wrote o a (hex_text (take i x)) t p
+  pub text : Wrote o a (hex_text (take i x)) t (a + 2 * i)
 
-pub hex_start : (o : List ℕ) (a : ℕ) (x : List ℕ) → a + 2 * length x ≤ length o → Paired o a x o a 0
+pub hex_start : (o : List ℕ) (a : ℕ) (x : List ℕ) → a + 2 * length x ≤ length o → Paired o a x o 0
 unfolding hex_text
-hex_start o a x h = record { below = omega arith; place = omega arith; long = refl; text = wrote_none o a (omega arith) }
+hex_start o a x h = let z : a + 0 ≡ a = omega arith in record { below = omega arith; long = refl; text = rw z (wrote_none o a (omega arith)) }
 
-pub hex_turn : (o : List ℕ) (a : ℕ) (x t : List ℕ) (p i : ℕ) {t₁ : List ℕ} {p₁ : ℕ} → Paired o a x t p i → i < length x
-    → Wrote t p (hex_text (get_or x i 0 ∷ [])) t₁ p₁ → Paired o a x t₁ p₁ (i + 1)
-hex_turn o a x t p i k h w =
-    let n : length (hex_text (get_or x i 0 ∷ [])) ≡ 2 = hex_length (get_or x i 0 ∷ []) in
-    let e : hex_text (take i x) ++ hex_text (get_or x i 0 ∷ []) ≡ hex_text (take (i + 1) x) =
+pub hex_turn : (o : List ℕ) (a : ℕ) (x t : List ℕ) (i : ℕ) {y z : ℕ} → a + 2 * length x ≤ length o → Paired o a x t i → i < length x
+    → y ≡ hex_letter (get_or x i 0 / 16) → z ≡ hex_letter (get_or x i 0 % 16) → Paired o a x (set (set t (a + 2 * i) y) (a + 2 * i + 1) z) (i + 1)
+hex_turn o a x t i room k h e f =
+    let w = pair_set t (a + 2 * i) (get_or x i 0) (omega (arith, k.long)) e f in
+    let n : hex_text (take i x) ++ hex_text (get_or x i 0 ∷ []) ≡ hex_text (take (i + 1) x) =
     sym (ap (λ j. hex_text (take j x)) (add-one i) ∙ ap hex_text (take-suc x i 0 h) ∙ hex_append (take i x) (get_or x i 0 ∷ [])) in
-    record {
-      below = omega arith;
-      place = omega (arith, w.place, k.place);
-      long = wrote_long w ∙ k.long;
-      text = rw e at (wrote_more k.text w);
-    }
+    let q : a + 2 * i + 2 ≡ a + 2 * (i + 1) = omega arith in
+    record { below = omega arith; long = wrote_long w ∙ k.long; text = rw (n, q) at (wrote_more k.text w) }
 
-pub hex_end : (o : List ℕ) (a : ℕ) (x t : List ℕ) (p i : ℕ) → Paired o a x t p i → length x ≤ i → Wrote o a (hex_text x) t p
-hex_end o a x t p i k h = rw (take_all i x h) at k.text
+pub hex_end : (o : List ℕ) (a : ℕ) (x t : List ℕ) (i : ℕ) → Paired o a x t i → length x ≤ i → Wrote o a (hex_text x) t (a + 2 * length x)
+hex_end o a x t i k h = let q : i ≡ length x = omega (arith, k.below) in rw (take_all i x h, q) at k.text

@@ -1,14 +1,15 @@
 -- Laws of texts written one after another. Assumes nothing.
-use Prim.Native.Nat.{ℕ, ◌+◌, ◌≤◌, ◌<◌}
+use Prim.Native.Nat.{ℕ, ◌+◌, ◌-◌, ◌≤◌, ◌<◌}
 use mathlib.Core.List.{List, [], ◌∷◌, ◌++◌, append_assoc}
-use mathlib.Core.Path.{◌≡◌, sym, ap, ◌∙◌}
+use mathlib.Core.Path.{◌≡◌, refl, sym, ap, ◌∙◌}
 use native.Mathlib.Numerals.{add-one}
 use native.Mathlib.Omega.{arith}
 use lib.ListN.{length, set, take, drop, length-append, take-append-drop}
 use lib.Seq.{length-take-le, take_at, drop_at, drop-drop, set_split, take-append-le, take-take}
 use Rattle.lists.specs.Bytes.{over}
 use Rattle.lists.proofs.Bytes.{length-over}
-use Rattle.digits.specs.Wrote.{Wrote}
+use Rattle.digits.specs.declared.Text.{Text}
+use Rattle.digits.specs.Wrote.{Wrote, Adds}
 
 module _ {A : Type 0} where
   -- y written right after x
@@ -33,6 +34,13 @@ module _ {A : Type 0} where
   over_one : (l : List A) (p : ℕ) (v : A) → p < length l → set l p v ≡ over l p (v ∷ [])
   unfolding over
   over_one l p v h = set_split l p v h ∙ ap (λ j. take p l ++ (v ∷ drop j l)) (sym (add-one p))
+
+  -- a part of the list, where y stands now
+  over_mid : (l x y : List A) (p : ℕ) → y ≡ x → take p l ++ (y ++ drop (p + length x - p) (drop p l)) ≡ over l p x
+  unfolding over
+  over_mid l x y p e =
+      let n : p + length x - p + p ≡ p + length x = omega arith in
+      rw (e, drop-drop) (ap (λ j. take p l ++ (x ++ drop j l)) (omega arith))
 
   -- one element written right before x
   pub over_before_one : (l : List A) (p : ℕ) (v : A) (x : List A) → p < length l → set (over l (p + 1) x) p v ≡ over l p (v ∷ x)
@@ -64,3 +72,13 @@ wrote_more {o} {o₁} {o₂} {s} {t} {a} {b} {c} v w =
       place = omega (arith, n, v.place, w.place);
       bytes = w.bytes ∙ rw (v.bytes, v.place) (over_over o a s t (omega (arith, v.room)));
     }
+
+-- a text that goes on
+pub adds : {t u : Text} {s : List ℕ} → u.out.ghost_name ≡ t.out.ghost_name → Wrote t.out.now t.at s u.out.now u.at → Adds t s u
+adds e w = record { same_room = e; as_long = wrote_long w; wrote = w }
+
+pub adds_more : {t u v : Text} {s r : List ℕ} → Adds t s u → Adds u r v → Adds t (s ++ r) v
+adds_more a b = adds (b.same_room ∙ a.same_room) (wrote_more a.wrote b.wrote)
+
+pub wrote_part : (o x y : List ℕ) (a : ℕ) → a + length x ≤ length o → y ≡ x → Wrote o a x (take a o ++ (y ++ drop (a + length x - a) (drop a o))) (a + length x)
+wrote_part o x y a h e = record { room = h; place = refl; bytes = over_mid o x y a e }

@@ -1,63 +1,42 @@
-// Numbers in decimal and bytes in hex. Each function writes into out from place at on, and returns the place after what it wrote.
+// Text written into a room: bytes, numbers in decimal, and bytes in hex.
 #![tactic(auto)]
 
 ghost use Rattle.std.specs.Prelude.{◌+◌, ◌*◌, ◌≤◌, ◌<◌, [], ◌∷◌, ◌≡◌, length};
-ghost use Rattle.digits.specs.Wrote.{Wrote};
+ghost use Rattle.digits.specs.Wrote.{Wrote, HasRoom, Adds};
 ghost use Rattle.model.specs.Session.{decimal, hex_letter, hex_text};
 
-pub fn put_byte(out: &mut [u8], at: usize, byte: u8) -> usize
-    requires { at < length out.old }
-    ensures { Wrote out.old at (byte ∷ []) out.new result }
-{
-    out[at] = byte;
-    at + 1
+// A text that goes up to place `at` of the room that it is written into.
+#[derive(Drop)]
+pub struct Text<'a> {
+    pub out: &'a mut [u8],
+    pub at: usize,
 }
 
-// How many digits a number below 10,000 has.
-fn few(n: u64) -> usize
-    requires { n < 10000 }
-    ensures { (result ≡ length (decimal n)) × (result ≤ 4) }
-{
-    if n < 10 {
-        return 1;
-    }
-    if n < 100 {
-        return 2;
-    }
-    if n < 1000 {
-        return 3;
-    }
-    4
-}
-
-// How many digits n has, four to a division.
+// How many digits n has.
 fn count(n: u64) -> usize
     ensures { (result ≡ length (decimal n)) × (1 ≤ result) × (result ≤ 20) }
 {
-    let mut rest = n;
-    let mut k: usize = 0;
-    while 10000 <= rest {
-        rest = rest / 10000;
-        k += 4;
+    match n.checked_ilog10() {
+        Some(k) => k as usize + 1,
+        None => 1,
     }
-    k + few(rest)
 }
 
-// The digits come from the last to the first. They are counted before, so that each is written where it stays.
-pub fn put_decimal(out: &mut [u8], at: usize, n: u64) -> usize
+// The digits come from the last to the first. They are counted before, so that each is written where it stays; the first is what is
+// left, without a division. By index here and in `put_hex`: through items that are lent, what is written goes by their loans, and a
+// loop's invariant can't name `out`.
+fn put_decimal(out: &mut [u8], at: usize, n: u64) -> usize
     requires { at + 20 ≤ length out.old }
     ensures wrote { Wrote out.old at (decimal n) out.new result }
     ensures short { result ≤ at + 20 }
 {
     let end = at + count(n);
-    let mut i = end - 1;
     let mut rest = n;
-    while 10 <= rest {
-        out[i] = 48 + ((rest % 10) as u8);
-        i -= 1;
+    for i in (at + 1..end).rev() {
+        out[i] = 48 + (rest % 10) as u8;
         rest = rest / 10;
     }
-    out[i] = 48 + (rest as u8);
+    out[at] = 48 + rest as u8;
     end
 }
 
@@ -72,24 +51,51 @@ fn letter(n: u8) -> u8
     55 + n
 }
 
-fn put_pair(out: &mut [u8], at: usize, byte: u8) -> usize
-    requires { at + 2 ≤ length out.old }
-    ensures { Wrote out.old at (hex_text (byte ∷ [])) out.new result }
+// This and the function `put_decimal` are on a room and a place, of which their loops and proofs speak: the methods are their face.
+fn put_hex(out: &mut [u8], at: usize, bytes: &[u8]) -> usize
+    requires { at + 2 * length bytes.now ≤ length out.old }
+    ensures { Wrote out.old at (hex_text bytes.now) out.new result }
 {
-    let next = put_byte(out, at, letter(byte / 16));
-    put_byte(out, next, letter(byte % 16))
+    for (k, b) in bytes.iter().enumerate() {
+        out[at + 2 * k] = letter(*b / 16);
+        out[at + 2 * k + 1] = letter(*b % 16);
+    }
+    at + 2 * bytes.len()
 }
 
-pub fn put_hex(out: &mut [u8], at: usize, bytes: &[u8]) -> usize
-    requires { at + 2 * length bytes.now ≤ length out.old }
-    ensures wrote { Wrote out.old at (hex_text bytes.now) out.new result }
-    ensures short { result ≡ at + 2 * length bytes.now }
-{
-    let mut p = at;
-    let mut i = 0;
-    while i < bytes.len() {
-        p = put_pair(out, p, bytes[i]);
-        i += 1;
+impl<'a> Text<'a> {
+    ghost use Rattle.digits.specs.Wrote.{HasRoom, Adds};
+
+    pub fn put_byte(&mut self, byte: u8)
+        requires { HasRoom self.old 1 }
+        ensures { Adds self.old (byte ∷ []) self.new }
+    {
+        self.out[self.at] = byte;
+        self.at += 1;
     }
-    p
+
+    pub fn put_bytes(&mut self, bytes: &[u8])
+        requires { HasRoom self.old (length bytes.now) }
+        ensures { Adds self.old bytes.now self.new }
+    {
+        let end = self.at + bytes.len();
+        self.out[self.at..end].copy_from_slice(bytes);
+        self.at = end;
+    }
+
+    pub fn put_decimal(&mut self, n: u64)
+        requires { HasRoom self.old 20 }
+        ensures adds { Adds self.old (decimal n) self.new }
+        ensures short { self.new.at ≤ self.old.at + 20 }
+    {
+        self.at = put_decimal(self.out, self.at, n);
+    }
+
+    pub fn put_hex(&mut self, bytes: &[u8])
+        requires { HasRoom self.old (2 * length bytes.now) }
+        ensures adds { Adds self.old (hex_text bytes.now) self.new }
+        ensures short { self.new.at ≡ self.old.at + 2 * length bytes.now }
+    {
+        self.at = put_hex(self.out, self.at, bytes);
+    }
 }

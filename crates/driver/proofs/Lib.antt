@@ -1,9 +1,5 @@
-pub mod Ending
 pub mod Heard
-pub mod Held
 pub mod Pieces
 pub mod Served
-pub mod Stepped
-pub mod Stopped
 pub mod Turned
 pub mod Whole

@@ -1,37 +1,38 @@
--- A turn of the loop: a line is completed, and answered. Assumes nothing.
-use Rattle.std.proofs.Common.{◌≡◌, ℕ, ◌+◌, ◌-◌, ◌%◌, ◌^◌, ◌<◌, ◌≤◌, List, [], length, take, drop, arith, length-take}
-use Rattle.model.specs.Session.{line_turn, line_text}
-use Rattle.turns.specs.declared.Host.{Host}
-use Rattle.turns.specs.declared.Here.{Here}
-use Rattle.turns.specs.declared.Outcome.{Outcome}
-use Rattle.turns.specs.Taken.{session_of, outcome_of, Taken}
+-- A line, read and answered. Assumes nothing.
+use Rattle.std.proofs.Common.{◌≡◌, ℕ, Bool, true, false, List, [], take, replicate, sym, refl, ap, ◌∙◌, take_at}
+use Rattle.lists.specs.Bytes.{over}
+use Rattle.lists.specs.Choice.{choose}
+use Rattle.lists.proofs.Choice.{yes!, no! }
+use Rattle.model.specs.declared.Request.{Request}
+use Rattle.model.specs.Lines.{stores, length_of, read_line, data_of}
+use Rattle.model.specs.Parts.{data_in}
+use Rattle.model.specs.Session.{request_turn, line_turn, line_text}
+use Rattle.lines.proofs.Stored.{data_length, data_most, data_none}
 use Rattle.digits.specs.Wrote.{Wrote}
-use Rattle.turns.specs.Told.{host_of}
-use Rattle.model.specs.declared.Change.{Change}
-use Rattle.model.specs.declared.State.{State}
-use Rattle.model.specs.Changes.{applied}
-use Rattle.feeds.specs.Feed.{answers, Feed, newline_from, whole_line}
-use Rattle.feeds.specs.Fed.{Going}
-use Rattle.feeds.proofs.Feeding.{going_line}
+use Rattle.turns.specs.declared.Host.{Host}
+use Rattle.turns.specs.declared.Outcome.{Outcome}
+use Rattle.turns.specs.Taken.{session_of, outcome_of, Prepared, Taken}
 
--- where the loop stands
-abbrev pub feed_at : Host → (scratch : List ℕ) → (line have : ℕ) → (held : List ℕ) → Feed
-feed_at h m n k held = record { work = answers; session = session_of h m; line = n; held = take k held }
+-- What the reader leaves of the line l: its request q, and its data over the zeros of a buffer b.
+module _ (l : List ℕ) (q : Request) (b : List ℕ) (e : q ≡ read_line l) (f : b ≡ over (replicate 257 0) 0 (data_of l)) where
+  read_data : data_in q b ≡ data_of l
+  unfolding data_in over
+  read_data = rw e (go (stores (read_line l)) refl)
+    where
+      go : (t : Bool) → stores (read_line l) ≡ t → choose (stores (read_line l)) (take (length_of (read_line l)) b) [] ≡ data_of l
+      go true y = yes! _ _ y ∙ rw f (take_at (data_of l) _ (length_of (read_line l)) (data_length l y))
+      go false y = no! _ _ y ∙ sym (data_none l y)
 
--- From i on the line is completed up to its newline at e, and the reply to its outcome is written.
-module _ (f : Feed) (h : Host) (input out out₁ m held : List ℕ) (i e a n n₁ have : ℕ) (g : Going f input out i a (feed_at h m n have held) out₁)
-    (c : e ≡ newline_from input i) (l : i ≤ e) (less : e < length input) (few : have ≤ 601) (fits : a + 600 ≤ length out) (y : n₁ ≡ (n + 1) % 2 ^ 64) where
-  abbrev line : List ℕ
-  line = whole_line held have (take (e - i) (drop i input))
+  pub read_prepared : Prepared q b
+  read_prepared = record { filled = f ∙ ap (over (replicate 257 0) 0) (sym read_data); fits = λ y. rw e (data_most l (rw e at y)) }
 
-  pub turned : (h₁ : Host) (m₁ b out₂ : List ℕ) (o : Outcome) (p : ℕ) → Taken (line_turn (session_of h m) line) o b h₁ m₁ → Wrote out₁ a (line_text n (outcome_of o b)) out₂ p
-      → Going f input out (e + 1) p (record { work = answers; session = session_of h₁ m₁; line = n₁; held = [] }) out₂
-  turned h₁ m₁ b out₂ o p t w =
-      let short : length (take have held) ≤ 601 = omega (arith, length-take have held) in
-      going_line f input out out₁ i e a n answers (session_of h m) (take have held) g c l short fits (session_of h₁ m₁) n₁ out₂ p less t.session y (rw t.outcome at w)
+  -- the request has been carried out
+  module _ (h₀ h : Host) (m₀ m b₁ : List ℕ) (o : Outcome) (t : Taken (request_turn (session_of h₀ m₀) q (data_in q b)) o b₁ h m) where
+    line_taken : Taken (line_turn (session_of h₀ m₀) l) o b₁ h m
+    line_taken = rw (read_data, e) at t
 
--- the same of a request that has been answered once a change is made, which is found to be k'
-module _ (x : Here) (s t : State) (l m m₁ b : List ℕ) (o : Outcome) (k k' : Change) (h : Taken (line_turn (session_of (host_of x s) m) l) o b (host_of x (applied s k)) m₁)
-    (e : k ≡ k') (p : t ≡ applied s k') where
-  pub stored_taken : Taken (line_turn (session_of (host_of x s) m) l) o b (host_of x t) m₁
-  stored_taken = rw p (rw e at h)
+    pub line_session : session_of h m ≡ (line_turn (session_of h₀ m₀) l).after
+    line_session = line_taken.session
+
+    pub line_said : (n a p : ℕ) (out out₁ : List ℕ) → Wrote out a (line_text n (outcome_of o b₁)) out₁ p → Wrote out a (line_text n (line_turn (session_of h₀ m₀) l).outcome) out₁ p
+    line_said n a p out out₁ w = rw line_taken.outcome at w

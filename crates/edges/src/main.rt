@@ -7,23 +7,17 @@
 // of the frames before the first tilde were kept. Scratch first holds 165 in every byte. A line that is no request is a heading.
 #![tactic(auto)]
 
-ghost use Rattle.std.specs.Prelude.{◌≤◌, length, IfSome};
-
 use model::{Answer, Call, Cell, Operation, Reply, Request, State};
-use std::env::FillError;
 use std::rt::Env;
 
-// A write that fails is passed over: whoever compares the output sees what is missing.
+// A write that fails is passed over: whoever compares the output sees what is missing. These lines are in each program that prints,
+// since a crate of theirs would hold nothing else.
 fn say(rt: &impl Print, text: &[u8]) {
     let _ = rt.write_all(text);
 }
 
 fn print(rt: &impl Print, n: u32) {
     let _ = print!(rt; " {n}");
-}
-
-fn print_byte(rt: &impl Print, b: u8) {
-    print(rt, b as u32);
 }
 
 fn told_answer(rt: &impl Print, a: Answer) {
@@ -33,111 +27,79 @@ fn told_answer(rt: &impl Print, a: Answer) {
 }
 
 fn told_buffer(rt: &impl Print, buffer: &[u8]) {
-    if buffer.len() == 0 {
-        return;
+    if let (Some(first), Some(last)) = (buffer.first(), buffer.last()) {
+        say(rt, b", bytes");
+        print(rt, u32::from(*first));
+        print(rt, u32::from(*last));
     }
-    say(rt, b", bytes");
-    print_byte(rt, buffer[0]);
-    print_byte(rt, buffer[buffer.len() - 1]);
 }
 
-fn told_cell(rt: &impl Print, f: u32, c: Cell) {
-    if c.key == 0 {
-        if !c.mark {
-            return;
+fn told_cells(rt: &impl Print, cells: &[Cell; 512]) {
+    for (f, cell) in cells.iter().enumerate() {
+        if cell.key != 0 || cell.mark {
+            say(rt, b" |");
+            print(rt, f as u32);
+            print(rt, u32::from(cell.key));
+            print(rt, u32::from(cell.mark));
         }
     }
-    say(rt, b" |");
-    print(rt, f);
-    print(rt, c.key as u32);
-    print(rt, c.mark as u32);
 }
 
-fn told_cells(rt: &impl Print, s: State) {
-    for f in 0..512u32 {
-        told_cell(rt, f, s.cells[f as usize]);
-    }
+// What became of the bytes of one frame.
+#[derive(Clone, Copy, PartialEq, Eq)]
+enum Change {
+    Kept,
+    Zeros,
+    Others,
 }
 
-// What became of the bytes of one frame: 0 kept, 1 made zeros, 2 made others.
-fn change(before: &[u8], after: &[u8]) -> u8 {
+fn change_of(before: &[u8], after: &[u8]) -> Change {
     if before == after {
-        return 0;
+        return Change::Kept;
     }
-    let zeros = [0u8; 4096];
-    if after == zeros.as_slice() {
-        return 1;
+    if after.iter().all(|b| *b == 0) {
+        return Change::Zeros;
     }
-    2
+    Change::Others
 }
 
-fn change_of_frame(before: &[u8], after: &[u8], f: u32) -> u8 {
-    if 511 < f {
-        return 0;
-    }
-    let start = f as usize * 4096;
-    let end = start + 4096;
-    if before.len() < end {
-        return 0;
-    }
-    if after.len() < end {
-        return 0;
-    }
-    change(&before[start..end], &after[start..end])
-}
-
-fn told_change(rt: &impl Print, f: u32, last: u8, new: u8) {
-    if new == last {
-        return;
-    }
+fn told_change(rt: &impl Print, f: u32, change: Change) {
     say(rt, b" ~");
     print(rt, f);
-    if new == 0 {
-        say(rt, b" kept");
-        return;
+    match change {
+        Change::Kept => say(rt, b" kept"),
+        Change::Zeros => say(rt, b" zeros"),
+        Change::Others => say(rt, b" others"),
     }
-    if new == 1 {
-        say(rt, b" zeros");
-        return;
-    }
-    say(rt, b" others");
 }
 
 fn told_frames(rt: &impl Print, before: &[u8], after: &[u8]) {
-    let mut last = 0u8;
-    for f in 0..512u32 {
-        let new = change_of_frame(before, after, f);
-        told_change(rt, f, last, new);
-        last = new;
+    let mut last = Change::Kept;
+    let frames = before.chunks(4096).zip(after.chunks(4096));
+    for (f, (before, after)) in (0..512u32).zip(frames) {
+        let new = change_of(before, after);
+        if new != last {
+            told_change(rt, f, new);
+            last = new;
+        }
     }
     say(rt, b"\n");
 }
 
-fn answered(a: Answer, s: State) -> Reply {
-    Reply {
-        answer: a,
-        state: s,
-    }
-}
-
 // By the calls' own functions, where there is one here.
+// By value, as the public face takes a state and gives it back.
 fn by_itself(s: State, scratch: &mut [u8], call: Call, buffer: &mut [u8]) -> Reply {
     let caller = call.caller;
-    let operation = call.operation;
-    match operation {
+    match call.operation {
         Operation::Destroy { id } => spaces::destroy(s, scratch, caller, id),
-        Operation::Fetch { register, address } => {
-            answered(
-                spaces::fetch(s, scratch, caller, register, address, buffer),
-                s,
-            )
-        }
-        Operation::Store { register, address } => {
-            answered(
-                spaces::store(s, scratch, caller, register, address, buffer),
-                s,
-            )
-        }
+        Operation::Fetch { register, address } => Reply {
+            answer: spaces::fetch(s, scratch, caller, register, address, buffer),
+            state: s,
+        },
+        Operation::Store { register, address } => Reply {
+            answer: spaces::store(s, scratch, caller, register, address, buffer),
+            state: s,
+        },
         Operation::Reset => spaces::reset(s, scratch, caller),
         Operation::Key { key } => spaces::key(s, scratch, caller, key),
         Operation::Block {
@@ -150,114 +112,76 @@ fn by_itself(s: State, scratch: &mut [u8], call: Call, buffer: &mut [u8]) -> Rep
     }
 }
 
+// `own` tells which of the two answers, for every line of a run. A closure in its place would be handed through as many functions.
 fn reply(s: State, scratch: &mut [u8], call: Call, buffer: &mut [u8], own: bool) -> Reply {
     if own {
-        return by_itself(s, scratch, call, buffer);
+        by_itself(s, scratch, call, buffer)
+    } else {
+        spaces::serve(s, scratch, call, buffer)
     }
-    spaces::serve(s, scratch, call, buffer)
 }
 
 // The state's own part of scratch is lent, and as much of `bytes` as the request is long: no line here asks for more.
-fn carried_out(
+fn carry_out(
     rt: &impl Print,
-    s: State,
+    s: &mut State,
     scratch: &mut [u8],
     call: Call,
     length: u32,
     bytes: &mut [u8],
     own: bool,
-) -> State {
+) {
     let size = s.frames as usize * 4096;
     let n = length as usize;
-    if scratch.len() < size {
-        return s;
+    if scratch.len() < size || bytes.len() < n {
+        return;
     }
-    if bytes.len() < n {
-        return s;
-    }
-    let r = reply(s, &mut scratch[0..size], call, &mut bytes[0..n], own);
-    let a = r.answer;
-    told_answer(rt, a);
-    told_buffer(rt, &bytes[0..n]);
-    told_cells(rt, r.state);
-    r.state
+    let r = reply(*s, &mut scratch[..size], call, &mut bytes[..n], own);
+    told_answer(rt, r.answer);
+    told_buffer(rt, &bytes[..n]);
+    told_cells(rt, &r.state.cells);
+    *s = r.state;
 }
 
-fn begun(rt: &impl Print, frames: u32) -> State {
+fn begin(rt: &impl Print, s: &mut State, frames: u32) {
     let r = spaces::fresh(frames);
-    let a = r.answer;
-    told_answer(rt, a);
-    told_cells(rt, r.state);
-    r.state
+    told_answer(rt, r.answer);
+    told_cells(rt, &r.state.cells);
+    *s = r.state;
 }
 
 // Two headings alter the tables: nothing else leads there, or not in a run that is short enough.
-fn altered(mut s: State, heading: &[u8]) -> State {
+fn alter(s: &mut State, heading: &[u8]) {
     if heading == b"next identification 65535".as_slice() {
         s.next = 65535;
-        return s;
-    }
-    if heading == b"the first space in frame 1".as_slice() {
+    } else if heading == b"the first space in frame 1".as_slice() {
         s.spaces[0].first = 1;
-        return s;
-    }
-    s
-}
-
-// The length of `bytes` is known from its type.
-fn asked(
-    rt: &impl Print,
-    s: State,
-    scratch: &mut [u8],
-    request: Request,
-    bytes: &mut [u8; 257],
-    heading: &[u8],
-    own: bool,
-) -> State {
-    match request {
-        Request::Frames { frames } => begun(rt, frames),
-        Request::Call { call, length } => carried_out(rt, s, scratch, call, length, bytes, own),
-        Request::NotRead => altered(s, heading),
     }
 }
 
 // One line, and what it did to each frame: scratch as it was before stands beside it, so that this takes 4 MB of stack.
-fn line(rt: &impl Print, s: State, scratch: &mut [u8; 2097152], text: &[u8], own: bool) -> State {
+fn line(rt: &impl Print, s: &mut State, scratch: &mut [u8; 2097152], text: &[u8], own: bool) {
     let before = *scratch;
     let mut bytes = [170u8; 257];
     say(rt, text);
-    let request = lines::read_line(text, &mut bytes);
-    let t = asked(rt, s, scratch, request, &mut bytes, text, own);
+    match lines::read_line(text, &mut bytes) {
+        Request::Frames { frames } => begin(rt, s, frames),
+        Request::Call { call, length } => carry_out(rt, s, scratch, call, length, &mut bytes, own),
+        Request::NotRead => alter(s, text),
+    }
     told_frames(rt, &before, scratch);
-    t
-}
-
-// Puts the argument of that place at the start of the text and tells its length: 0 where it is too long, and nothing where there is
-// none.
-fn argument(rt: &impl Env, place: usize, text: &mut [u8]) -> Option<usize>
-    ensures { IfSome result (λ n. n ≤ length text.new) }
-{
-    match rt.arg(place, text) {
-        Ok(n) => Some(n),
-        Err(FillError::TooLong) => Some(0),
-        Err(FillError::NotPresent) => None,
-    }
-}
-
-fn each_line(rt: &(impl Env + Print), scratch: &mut [u8; 2097152], own: bool) {
-    let mut text = [0u8; 4096];
-    let mut s = spaces::fresh(0).state;
-    for i in 1..usize::MAX {
-        let Some(n) = argument(rt, i, &mut text) else {
-            break;
-        };
-        s = line(rt, s, scratch, &text[..n], own);
-    }
 }
 
 fn run(rt: &(impl Env + Print), own: bool) {
     let mut scratch = [165u8; 2097152];
-    each_line(rt, &mut scratch, own);
+    let mut text = [0u8; 4096];
+    let mut s = spaces::fresh(0).state;
+    for i in 1..usize::MAX {
+        let Some(n) = arguments::at(rt, i, &mut text) else {
+            break;
+        };
+        line(rt, &mut s, &mut scratch, &text[..n], own);
+    }
 }
 
 fn main(rt: HostRuntime) {

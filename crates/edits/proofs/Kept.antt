@@ -3,7 +3,7 @@ use Prim.Native.Nat.{ℕ, ◌≤◌, ◌<◌}
 use mathlib.Core.Bool.{Bool, true, false}
 use mathlib.Core.Path.{◌≡◌, refl, sym, ap, ap₂, ◌∙◌}
 use Rattle.model.specs.declared.Answer.{Answer}
-use Rattle.model.specs.declared.Answer.TheVariants.{BadCaller}
+use Rattle.model.specs.declared.Answer.TheVariants.{BadCaller, Done}
 use Rattle.model.specs.declared.Cell.{Cell}
 use Rattle.model.specs.declared.Entry.{Entry}
 use Rattle.model.specs.declared.Reply.{Reply}
@@ -15,7 +15,6 @@ use Rattle.model.specs.declared.Operation.{Operation}
 use Rattle.model.specs.Calls.{enrols, judge}
 use Rattle.model.specs.Replies.{reply, replied, call_of}
 use Rattle.model.specs.SoundTest.{sound}
-use Rattle.asks.specs.declared.Asks.{Asks}
 use Rattle.views.specs.declared.View.{View}
 use Rattle.asks.specs.Asks.{asks_by}
 use Rattle.views.specs.Views.{view_of}
@@ -23,7 +22,10 @@ use Rattle.views.proofs.Judged.{judged_bad}
 use Rattle.edits.specs.declared.Edit.{Edit}
 use Rattle.edits.specs.declared.Edit.TheVariants as edit
 use Rattle.edits.specs.declared.Edited.{Edited}
-use Rattle.edits.specs.Edits.{change_of, Fits, Decides, Decided}
+use Rattle.edits.specs.declared.Granted.{Granted}
+use Rattle.edits.specs.Edits.{change_of, edited, Fits, Decides, Decided}
+use Rattle.sound.proofs.Kept.{replied_sound}
+use Rattle.std.specs.Prelude.{Result, Ok, Err, IsErrAnd}
 
 module _ (x : Edit) (f : Fits x) where
   pub entry_inside : (k : ℕ) (y : Entry) → x ≡ edit.Entry k y → k < 240
@@ -52,35 +54,42 @@ module _ (x : Edit) (f : Fits x) where
 
 pub ruleset insides = (entry_inside, cpu_inside, register_inside, mode_inside, key_inside, cell_inside)
 
--- what the code has made by an edit that it has found to be y
-pub carried_by : (s t : State) (e : Edited) (y : Edit) → e.edit ≡ y → t ≡ applied s (change_of y) → reply e.answer t ≡ reply e.answer (applied s (change_of e.edit))
-carried_by s t e y q p = ap (reply e.answer) (p ∙ ap (λ z. applied s (change_of z)) (sym q))
+-- what the code has stored of an edit that it has found to be y
+pub stored_by : (s t : State) (x y : Edit) → x ≡ y → t ≡ applied s (change_of y) → t ≡ applied s (change_of x)
+stored_by s t x y q p = p ∙ ap (λ z. applied s (change_of z)) (sym q)
 
--- a refusal; and the reply of a call that was decided
-module _ (v : View) (o : Operation) (x : Edited) where
+-- a refusal; and a call that is granted
+module _ (v : View) (o : Operation) where
   abbrev Judged : (Decision → Type 0) → Type 0
   Judged P = (s : State) (c : Caller) → sound s ≡ true → v ≡ view_of s (asks_by c.guest o) → P (judge s (call_of c o) 0)
 
-  pub decided_refused : (a : Answer) → x ≡ record { answer = a; edit = edit.Nothing } → Judged (λ d. d ≡ refuse a) → Decided v o x
+  pub decided_refused : (a : Answer) → Judged (λ d. d ≡ refuse a) → Decided v o (edited (Err a))
   unfolding Fits change_of
-  decided_refused a e h = rw e (record { fits = tt; decides = λ s c ok q. rw (h s c ok q) (record { answer = refl; change = refl }) })
+  decided_refused a h = record { fits = tt; decides = λ s c ok q. rw (h s c ok q) (record { answer = refl; change = refl }) }
 
   -- check 2, of every call but ENROL
-  pub decided_bad : enrols o ≡ false → 8 ≤ v.place → x ≡ record { answer = BadCaller; edit = edit.Nothing } → Decided v o x
-  decided_bad plain g p = decided_refused BadCaller p (λ s c ok e. judged_bad s c o 0 v plain e g)
+  pub decided_bad : (a : Answer) → enrols o ≡ false → a ≡ BadCaller → 8 ≤ v.place → Decided v o (edited (Err a))
+  decided_bad a plain is g = decided_refused a (λ s c ok e. judged_bad s c o 0 v plain e g ∙ ap refuse (sym is))
 
-  pub decided_done : (a : Answer) (y : Edit) → x ≡ record { answer = a; edit = y } → Fits y → Judged (Decides (record { answer = a; edit = y })) → Decided v o x
-  decided_done a y e f h = rw e (record { fits = f; decides = h })
+  pub decided_done : (x : Granted) (y : Edit) → x ≡ record { value = 0; edit = y } → Fits y → Judged (Decides (record { answer = Done 0; edit = y })) → Decided v o (edited (Ok x))
+  decided_done x y e f h = rw e (record { fits = f; decides = h })
+
+  -- for search: what a `?` hands on
+  pub decided_err : (a : Answer) (r : Result Granted Answer) → IsErrAnd r (λ e. e ≡ a) → Decided v o (edited (Err a)) → Decided v o (edited r)
+  decided_err a (Ok _) q d = absurd q
+  decided_err a (Err e) q d = rw q d
 
 pub carried_reply : (s : State) (e : Edited) (d : Decision) (r : Reply) → Decides e d → r ≡ reply e.answer (applied s (change_of e.edit)) → r ≡ replied s d
 unfolding replied
 carried_reply s e d r h p = p ∙ ap₂ (λ a c. reply a (applied s c)) h.answer h.change
 
--- the reply of a call on a state that was handed over
-pub seen_carried : (s : State) (c : Caller) (o : Operation) (a : Asks) (v : View) (x : Edited) (r : Reply) → sound s ≡ true → a ≡ asks_by c.guest o → v ≡ view_of s a
-    → Decided v o x → r ≡ reply x.answer (applied s (change_of x.edit)) → r ≡ replied s (judge s (call_of c o) 0)
-seen_carried s c o a v x r ok p q d e = carried_reply s x (judge s (call_of c o) 0) r (d.decides s c ok (q ∙ ap (view_of s) p)) e
+-- a call on a sound state, decided on what it sees of it: its reply, the state after it, and its answer
+module _ (s : State) (c : Caller) (o : Operation) (v : View) (x : Edited) (ok : sound s ≡ true) (q : v ≡ view_of s (asks_by c.guest o)) (d : Decided v o x) where
+  pub seen_carried : (r : Reply) → r ≡ reply x.answer (applied s (change_of x.edit)) → r ≡ replied s (judge s (call_of c o) 0)
+  seen_carried r e = carried_reply s x (judge s (call_of c o) 0) r (d.decides s c ok q) e
 
-pub seen_told : (s : State) (c : Caller) (o : Operation) (a : Asks) (v : View) (x : Edited) → sound s ≡ true → a ≡ asks_by c.guest o → v ≡ view_of s a
-    → Decided v o x → x.answer ≡ (judge s (call_of c o) 0).answer
-seen_told s c o a v x ok p q d = (d.decides s c ok (q ∙ ap (view_of s) p)).answer
+  pub seen_sound : (r : Reply) → r ≡ reply x.answer (applied s (change_of x.edit)) → sound r.state ≡ true
+  seen_sound r e = replied_sound s (call_of c o) 0 r ok (seen_carried r e)
+
+  pub seen_told : x.answer ≡ (judge s (call_of c o) 0).answer
+  seen_told = (d.decides s c ok q).answer

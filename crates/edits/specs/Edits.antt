@@ -1,5 +1,7 @@
 -- One element stored, as a change of the model, and what a call's code has decided of one.
-use Rattle.std.specs.Prelude.{◌<◌, true, ◌≡◌}
+use Rattle.std.specs.Prelude.{◌<◌, true, ◌≡◌, Result, Ok, Err}
+use Rattle.model.specs.declared.Answer.{Answer}
+use Rattle.model.specs.declared.Answer.TheVariants.{Done}
 use Rattle.model.specs.declared.Caller.{Caller}
 use Rattle.model.specs.declared.Change.{Change}
 use Rattle.model.specs.declared.Change.TheVariants.{Keep, SetPermit, SetEntry, SetRegister, SetMode, SetKey, SetCell}
@@ -15,6 +17,7 @@ use Rattle.views.specs.Views.{view_of}
 use Rattle.edits.specs.declared.Edit.{Edit}
 use Rattle.edits.specs.declared.Edit.TheVariants.{Nothing, Permit, Entry, Register, Mode, Key, Cell}
 use Rattle.edits.specs.declared.Edited.{Edited}
+use Rattle.edits.specs.declared.Granted.{Granted}
 
 unfoldable pub change_of : Edit → Change
 change_of Nothing = Keep
@@ -24,6 +27,11 @@ change_of (Register k r v) = SetRegister k r v
 change_of (Mode k m) = SetMode k m
 change_of (Key k x) = SetKey k x
 change_of (Cell f c) = SetCell f c
+
+-- what a call comes to that was decided: one that is refused stores nothing
+abbrev pub edited : Result Granted Answer → Edited
+edited (Ok x) = record { answer = Done x.value; edit = x.edit }
+edited (Err a) = record { answer = a; edit = Nothing }
 
 -- the element stands in its table; every place of a byte's size is one of the permits
 unfoldable pub Fits : Edit → Type 0

@@ -1,16 +1,18 @@
-// What a call decides that changes one element of the tables at most: its answer, and the element. Whoever owns the tables
-// stores it.
+// What a call decides that changes one element of the tables at most: its answer, and the element; and how it is stored, in tables
+// that are lent.
 #![tactic(auto)]
 
 ghost use Rattle.std.specs.Prelude.{◌≡◌};
-ghost use Rattle.model.specs.declared.Answer.TheVariants.{Done};
 ghost use Rattle.model.specs.Changes.{applied};
-ghost use Rattle.model.specs.Replies.{reply};
-ghost use Rattle.edits.specs.declared.Edit.TheVariants.{Nothing};
-ghost use Rattle.edits.specs.Edits.{Fits, change_of};
+ghost use Rattle.model.specs.Replies.{reply, call_of};
+ghost use Rattle.sound.specs.Answered.{Answered};
+ghost use Rattle.edits.specs.Edits.{Fits, change_of, edited, Decided};
 
-use model::{Answer, Cell, Entry, Permit, Reply, State};
+use model::{Answer, Caller, Cell, Entry, Operation, Permit, State};
+use sound::Sound;
+use views::View;
 
+// The element that is stored. That there is none is a case: `change_of` gives the model's `Keep` for it.
 #[derive(Clone, Copy)]
 pub enum Edit {
     Nothing,
@@ -22,6 +24,23 @@ pub enum Edit {
     Cell { place: u16, cell: Cell },
 }
 
+// A call that passes its checks: the value that it answers, and the element that it stores.
+#[derive(Clone, Copy)]
+pub struct Granted {
+    pub value: u32,
+    pub edit: Edit,
+}
+
+// Most calls answer the value 0.
+impl From<Edit> for Granted {
+    ghost from_gives = { λ edit granted. granted ≡ record { value = 0; edit = edit } };
+
+    fn from(edit: Edit) -> Granted {
+        Granted { value: 0, edit }
+    }
+}
+
+// What any call comes to: its answer, and the element.
 #[derive(Clone, Copy)]
 pub struct Edited {
     pub answer: Answer,
@@ -29,33 +48,31 @@ pub struct Edited {
 }
 
 // A refused call stores nothing.
-pub fn refused(answer: Answer) -> Edited
-    ensures { result ≡ record { answer = answer; edit = Nothing } }
-{
-    Edited {
-        answer: answer,
-        edit: Edit::Nothing,
+impl From<Result<Granted, Answer>> for Edited {
+    ghost from_gives = { λ decided e. e ≡ edited decided };
+
+    fn from(decided: Result<Granted, Answer>) -> Edited {
+        match decided {
+            Ok(granted) => Edited {
+                answer: Answer::Done {
+                    value: granted.value,
+                },
+                edit: granted.edit,
+            },
+            Err(answer) => Edited {
+                answer,
+                edit: Edit::Nothing,
+            },
+        }
     }
 }
 
-// A call that is done with the value 0.
-pub fn done(edit: Edit) -> Edited
-    ensures { result ≡ record { answer = Done 0; edit = edit } }
+// The element is stored in its table, where the tables stand.
+#[tactic(auto, using(crate::proofs::Kept::insides, crate::proofs::Kept::stored_by), unfolding(crate::specs::Edits::change_of))]
+pub fn store(s: &mut State, edit: Edit)
+    requires { Fits edit }
+    ensures { s.new ≡ applied s.old (change_of edit) }
 {
-    Edited {
-        answer: Answer::Done { value: 0 },
-        edit: edit,
-    }
-}
-
-// The reply of the call, of a state that is handed over. It is changed where it stands, and one reply is made of it at the end: a
-// reply in each arm would be one more copy of it.
-pub fn carried(mut s: State, e: Edited) -> Reply
-    requires { Fits e.edit }
-    ensures { result ≡ reply e.answer (applied s (change_of e.edit)) }
-{
-    let answer = e.answer;
-    let edit = e.edit;
     match edit {
         Edit::Nothing => {}
         Edit::Permit { place, permit } => {
@@ -69,26 +86,40 @@ pub fn carried(mut s: State, e: Edited) -> Reply
             register,
             value,
         } => {
-            let k = cpu as usize;
-            let mut c = s.cpus[k];
-            c.registers[register as usize] = value;
-            s.cpus[k] = c;
+            s.cpus[cpu as usize].registers[register as usize] = value;
         }
         Edit::Mode { cpu, mode } => {
-            let k = cpu as usize;
-            let mut c = s.cpus[k];
-            c.mode = mode;
-            s.cpus[k] = c;
+            s.cpus[cpu as usize].mode = mode;
         }
         Edit::Key { cpu, key } => {
-            let k = cpu as usize;
-            let mut c = s.cpus[k];
-            c.key = key;
-            s.cpus[k] = c;
+            s.cpus[cpu as usize].key = key;
         }
         Edit::Cell { place, cell } => {
             s.cells[place as usize] = cell;
         }
     }
-    Reply { answer, state: s }
+}
+
+// What a call came to, carried out: its answer.
+pub fn carry(s: &mut State, e: Edited) -> Answer
+    requires { Fits e.edit }
+    ensures { reply result s.new ≡ reply e.answer (applied s.old (change_of e.edit)) }
+{
+    store(s, e.edit);
+    e.answer
+}
+
+// A call on a sound state: decided on what it sees, and carried out.
+pub fn call<F: FnOnce(&View) -> Result<Granted, Answer>>(
+    s: &mut Sound,
+    caller: Caller,
+    operation: Operation,
+    decide: F,
+) -> Answer
+    requires callable { F.IsAlwaysCallable decide }
+    requires decides { (v : _) (r : _) → F.post decide v r → Decided v.now operation (edited r) }
+    ensures { Answered s.old (call_of caller operation) result s.new }
+{
+    let v = views::seen_by(s.state, caller, operation);
+    carry(s.state, decide(&v).into())
 }

@@ -2,7 +2,6 @@
 use Prim.Native.Nat.{ℕ, ◌-◌, ◌≤◌, ◌<◌}
 use mathlib.Core.Bool.{Bool, true, false, not}
 use mathlib.Core.List.{List, []}
-use mathlib.Core.Logic.{◌≢◌}
 use mathlib.Core.Path.{◌≡◌, refl, subst, sym, ◌∙◌}
 use native.Mathlib.Omega.{arith}
 use lib.Dec.{leb}
@@ -10,10 +9,11 @@ use lib.ListN.{set}
 use borrow.Author.Tests.{leb-true, not-true, not-false}
 use Rattle.lists.specs.Choice.{choose, both}
 use Rattle.lists.proofs.Choice.{both_left, both_right}
+use Rattle.std.specs.Prelude.{Result, Ok, Err}
+use Rattle.model.specs.declared.Answer.{Answer}
 use Rattle.model.specs.declared.Answer.TheVariants.{Done, BadCaller, Limit}
 use Rattle.model.specs.declared.Caller.{Caller}
 use Rattle.model.specs.declared.Guest.{Guest}
-use Rattle.model.specs.declared.Kind.{Kind}
 use Rattle.model.specs.declared.Kind.TheVariants.{Pages, Allowance, ListSize, Flag}
 use Rattle.model.specs.declared.Operation.TheVariants.{Enrol}
 use Rattle.model.specs.declared.Settings.{Settings}
@@ -32,52 +32,70 @@ use Rattle.model.specs.Step.{clear_frames}
 use Rattle.model.specs.Tables.{guest_place, with_guests}
 use Rattle.model.proofs.Rules.{check_yes, check_no}
 use Rattle.model.proofs.Sound.{may_enrol_lem}
-use Rattle.enrolling.specs.Enrolling.{wrong_of, kind_at, Decides, EnrolsTo}
+use Rattle.enrolling.specs.Enrolling.{settings_checked, Decides, EnrolsTo}
 use Rattle.making.specs.declared.Placed.{Placed}
-use Rattle.making.specs.declared.Placed.TheVariants.{Refused, At}
 use Rattle.making.specs.Placing.{PlacedTo, CallNotPlaced}
 use Rattle.making.proofs.Done as making
+use Rattle.sound.proofs.Kept.{carried_sound}
 
 -- the checks of the arguments, over the five tests
-abbrev wrong : (a b c d e : Bool) → ℕ
-wrong a b c d e = choose a (choose b (choose c (choose d (choose e 0 6) 5) 4) 3) 2
+abbrev checked : (a b c d e : Bool) → Result (Unit {0}) Answer
+checked a b c d e =
+    choose a
+    (choose b
+    (choose c
+    (choose d
+    (choose e (Ok tt)
+    (Err (Limit Flag 6)))
+    (Err (Limit ListSize 5)))
+    (Err (Limit Flag 4)))
+    (Err (Limit Allowance 3)))
+    (Err (Limit Pages 2))
 
-first_wrong : (z : Decision) (a b c d e : Bool) → wrong a b c d e ≢ 0
-    → check a (Limit Pages 2) (check b (Limit Allowance 3) (check c (Limit Flag 4) (check d (Limit ListSize 5) (check e (Limit Flag 6) z))))
-    ≡ refuse (Limit (kind_at (wrong a b c d e)) (wrong a b c d e))
-unfolding choose check kind_at
-first_wrong z false b c d e n = refl
-first_wrong z true false c d e n = refl
-first_wrong z true true false d e n = refl
-first_wrong z true true true false e n = refl
-first_wrong z true true true true false n = refl
-first_wrong z true true true true true n = absurd (n refl)
+abbrev checks : (a b c d e : Bool) → Decision → Decision
+checks a b c d e z = check a (Limit Pages 2) (check b (Limit Allowance 3) (check c (Limit Flag 4) (check d (Limit ListSize 5) (check e (Limit Flag 6) z))))
 
-all_right : (a b c d e : Bool) → wrong a b c d e ≡ 0 → (a ≡ true) × (b ≡ true) × (c ≡ true) × (d ≡ true) × (e ≡ true)
-unfolding choose
-all_right false b c d e z = absurd (omega arith)
-all_right true false c d e z = absurd (omega arith)
-all_right true true false d e z = absurd (omega arith)
-all_right true true true false e z = absurd (omega arith)
-all_right true true true true false z = absurd (omega arith)
-all_right true true true true true z = (refl, refl, refl, refl, refl)
+-- what each tells of the decision z that follows
+Told : (a b c d e : Bool) → Result (Unit {0}) Answer → Type 0
+Told a b c d e (Ok y) = (a ≡ true) × (b ≡ true) × (c ≡ true) × (d ≡ true) × (e ≡ true)
+Told a b c d e (Err r) = (z : Decision) → checks a b c d e z ≡ refuse r
 
-module _ (x : Settings) (w : ℕ) (is : w ≡ wrong_of x) (none : w ≡ 0) where
-  right : (both (leb 1 x.pages) (leb x.pages 512) ≡ true) × (leb x.allowance 31 ≡ true) × (leb x.share 1 ≡ true) × (both (leb 1 x.list) (leb x.list 30) ≡ true) × (leb x.asf 1 ≡ true)
-  unfolding wrong_of
-  right = all_right _ _ _ _ _ (sym is ∙ none)
+told : (a b c d e : Bool) → Told a b c d e (checked a b c d e)
+unfolding choose check Told
+told false b c d e = λ z. refl
+told true false c d e = λ z. refl
+told true true false d e = λ z. refl
+told true true true false e = λ z. refl
+told true true true true false = λ z. refl
+told true true true true true = (refl, refl, refl, refl, refl)
 
-  pub pages_low : 1 ≤ x.pages
-  pages_low = leb-true 1 x.pages (both_left _ _ right.0)
+module _ (x : Settings) (r : Result (Unit {0}) Answer) (e : r ≡ settings_checked x) where
+  abbrev pages_ok : Bool
+  pages_ok = both (leb 1 x.pages) (leb x.pages 512)
 
-  pub pages_high : x.pages ≤ 512
-  pages_high = leb-true x.pages 512 (both_right (leb 1 x.pages) _ right.0)
+  abbrev list_ok : Bool
+  list_ok = both (leb 1 x.list) (leb x.list 30)
 
-  allowance_small : x.allowance < 256
-  allowance_small = omega (arith, leb-true x.allowance 31 right.1)
+  told_as : (y : Result (Unit {0}) Answer) → r ≡ y → Told pages_ok (leb x.allowance 31) (leb x.share 1) list_ok (leb x.asf 1) y
+  unfolding settings_checked
+  told_as y is = subst (Told _ _ _ _ _) (sym e ∙ is) (told _ _ _ _ _)
 
-  list_small : x.list < 256
-  list_small = omega (arith, leb-true x.list 30 (both_right (leb 1 x.list) _ right.3))
+  module _ (is : r ≡ Ok tt) where
+    right : (pages_ok ≡ true) × (leb x.allowance 31 ≡ true) × (leb x.share 1 ≡ true) × (list_ok ≡ true) × (leb x.asf 1 ≡ true)
+    unfolding Told
+    right = told_as (Ok tt) is
+
+    pub pages_low : 1 ≤ x.pages
+    pages_low = leb-true 1 x.pages (both_left _ _ right.0)
+
+    pub pages_high : x.pages ≤ 512
+    pages_high = leb-true x.pages 512 (both_right (leb 1 x.pages) _ right.0)
+
+    allowance_small : x.allowance < 256
+    allowance_small = omega (arith, leb-true x.allowance 31 right.1)
+
+    list_small : x.list < 256
+    list_small = omega (arith, leb-true x.list 30 (both_right (leb 1 x.list) _ right.3))
 
 -- the call, on the tables that it looks at
 module _ (F next : ℕ) (ss : List Space) (gs : List Guest) (c : Caller) (x : Settings) (may : Bool) (e : may ≡ may_enrol gs c.guest) where
@@ -96,53 +114,54 @@ module _ (F next : ℕ) (ss : List Space) (gs : List Guest) (c : Caller) (x : Se
     pub owner_small : c.guest ≤ 8
     owner_small = is_guest_lem.high
 
-    module _ (w : ℕ) (we : w ≡ wrong_of x) where
-      enrols_in : (s : State) → s.guests ≡ gs → may_enrol s.guests c.guest ≡ true
-      enrols_in s q = rw q here
+    enrols_in : (s : State) → s.guests ≡ gs → may_enrol s.guests c.guest ≡ true
+    enrols_in s q = rw q here
 
-      pub enrol_wrong : (k : Kind) → (w ≡ 0 → ⊥) → k ≡ kind_at w → CallNotPlaced F next ss gs (call_of c (Enrol x)) (Limit k w)
-      unfolding judge good_caller enrols choose arguments check_all wrong_of
-      enrol_wrong k wn ke s h q = check_yes _ _ (enrols_in s q) ∙ rw (ke, we) (first_wrong _ _ _ _ _ _ (λ z. wn (we ∙ z)))
+    module _ (t : Result (Unit {0}) Answer) (te : t ≡ settings_checked x) where
+      pub enrol_wrong : (a : Answer) → t ≡ Err a → CallNotPlaced F next ss gs (call_of c (Enrol x)) a
+      unfolding judge good_caller enrols choose arguments check_all Told
+      enrol_wrong a is s h q = check_yes _ _ (enrols_in s q) ∙ told_as x t te (Err a) is _
 
-      passed : w ≡ 0 → (s : State) → s.guests ≡ gs → judge s (call_of c (Enrol x)) 0 ≡ making s x.pages (enrolling s c.guest x)
-      unfolding judge good_caller enrols choose arguments check_all perform enrol
-      passed z s q =
-          let f = right x w we z in
-          check_yes _ _ (enrols_in s q) ∙ check_yes _ _ f.0 ∙ check_yes _ _ f.1 ∙ check_yes _ _ f.2 ∙ check_yes _ _ f.3 ∙ check_yes _ _ f.4
+      module _ (is : t ≡ Ok tt) where
+        passed : (s : State) → s.guests ≡ gs → judge s (call_of c (Enrol x)) 0 ≡ making s x.pages (enrolling s c.guest x)
+        unfolding judge good_caller enrols choose arguments check_all perform enrol
+        passed s q =
+            let f = right x t te is in
+            check_yes _ _ (enrols_in s q) ∙ check_yes _ _ f.0 ∙ check_yes _ _ f.1 ∙ check_yes _ _ f.2 ∙ check_yes _ _ f.3 ∙ check_yes _ _ f.4
 
-      pub enrol_placed : w ≡ 0 → (r : Placed) → PlacedTo F next ss c.guest base_name x.pages r → EnrolsTo F next ss gs c x r
-      enrol_placed z (Refused a) p = λ s h q. passed z s q ∙ p s h (enrolling s c.guest x)
-      enrol_placed z (At u y) p = (
-        sym we ∙ z,
-        λ s h q. record { guest = is_guest_lem; judged = passed z s q; placed = p s h },
-      )
+        pub enrol_placed : (r : Result Placed Answer) → PlacedTo F next ss c.guest base_name x.pages r → EnrolsTo F next ss gs c x r
+        enrol_placed (Err a) p = λ s h q. passed s q ∙ p s h (enrolling s c.guest x)
+        enrol_placed (Ok y) p = (sym te ∙ is, λ s h q. record { guest = is_guest_lem; judged = passed s q; placed = p s h })
 
 -- what was decided, in the state that has the tables
-module _ (s : State) (c : Caller) (x : Settings) (r : Placed) (d : EnrolsTo s.frames s.next s.spaces s.guests c x r) where
-  decides : (y : Placed) → EnrolsTo s.frames s.next s.spaces s.guests c x y → Decides s.frames s.next s.spaces s.guests c x y
-  decides (Refused a) h = h
-  decides (At u y) h = h.1
+module _ (s : State) (c : Caller) (x : Settings) (r : Result Placed Answer) (d : EnrolsTo s.frames s.next s.spaces s.guests c x r) where
+  decides : (y : Result Placed Answer) → EnrolsTo s.frames s.next s.spaces s.guests c x y → Decides s.frames s.next s.spaces s.guests c x y
+  decides (Err a) h = h
+  decides (Ok y) h = h.1
 
   pub enrol_decides : Decides s.frames s.next s.spaces s.guests c x r
   enrol_decides = decides r d
 
-  module _ (u : ℕ) (y : Space) (e : r ≡ At u y) where
-    settled : wrong_of x ≡ 0
+  module _ (p : Placed) (e : r ≡ Ok p) where
+    settled : settings_checked x ≡ Ok tt
     settled = (subst (EnrolsTo s.frames s.next s.spaces s.guests c x) e d).0
 
     pub allowance_fits : x.allowance < 256
-    allowance_fits = allowance_small x (wrong_of x) refl settled
+    allowance_fits = allowance_small x _ refl settled
 
     pub list_fits : x.list < 256
-    list_fits = list_small x (wrong_of x) refl settled
+    list_fits = list_small x _ refl settled
 
     -- the guest's number, and where it stands
     pub number_low : 1 ≤ c.guest
-    number_low = making.guest_low s (call_of c (Enrol x)) base_name x.pages (λ t. enrolling t c.guest x) r enrol_decides [] u y e
+    number_low = making.guest_low s (call_of c (Enrol x)) base_name x.pages (λ t. enrolling t c.guest x) r enrol_decides [] p e
 
     pub place_low : c.guest - 1 < 8
-    place_low = omega (arith, making.guest_high s (call_of c (Enrol x)) base_name x.pages (λ t. enrolling t c.guest x) r enrol_decides [] u y e)
+    place_low = omega (arith, making.guest_high s (call_of c (Enrol x)) base_name x.pages (λ t. enrolling t c.guest x) r enrol_decides [] p e)
 
-    pub enrol_done : (g : Guest) (m m' : List ℕ) → g ≡ new_guest x → sound s ≡ true → m' ≡ clear_frames (in_run y.first y.pages) m
-        → Carried s (judge s (call_of c (Enrol x)) 0) (reply (Done y.id) (space_added (with_guests s (set s.guests (guest_place c.guest) g)) u y)) m m'
-    enrol_done g m m' is ok cleared = rw is (making.makes s (call_of c (Enrol x)) base_name x.pages (λ t. enrolling t c.guest x) r enrol_decides m u y e _ m' refl ok cleared)
+    module _ (g : Guest) (is : g ≡ new_guest x) (ok : sound s ≡ true) (t : State) (te : t ≡ space_added (with_guests s (set s.guests (guest_place c.guest) g)) p.slot p.space) where
+      pub enrol_done : (a : Answer) (m m' : List ℕ) → a ≡ Done p.space.id → m' ≡ clear_frames (in_run p.space.first p.space.pages) m → Carried s (judge s (call_of c (Enrol x)) 0) (reply a t) m m'
+      enrol_done a m m' ae cleared = rw (te, ae, is) (making.makes s (call_of c (Enrol x)) base_name x.pages (λ t. enrolling t c.guest x) r enrol_decides m p e _ m' refl ok cleared)
+
+      pub enrol_sound : sound t ≡ true
+      enrol_sound = carried_sound s _ (call_of c (Enrol x)) [] _ (Done p.space.id) ok (enrol_done (Done p.space.id) [] _ refl refl)

@@ -1,75 +1,57 @@
 // ENROL, for callers that hold a sound state and its scratch.
 #![tactic(auto)]
 
-ghost use Rattle.std.specs.Prelude.{◌*◌, ◌≤◌, ◌<◌, true, ◌≡◌, length};
-ghost use Rattle.enrolling.specs.Enrolling.{wrong_of, kind_at, EnrolsTo};
-ghost use Rattle.model.specs.Calls.{judge, may_enrol, new_guest};
-ghost use Rattle.model.specs.Replies.{call_of, Carried};
-ghost use Rattle.model.specs.SoundTest.{sound};
+ghost use Rattle.std.specs.Prelude.{◌*◌, ◌≤◌, ◌<◌, Err, ◌≡◌, length};
+ghost use Rattle.enrolling.specs.Enrolling.{settings_checked, EnrolsTo};
+ghost use Rattle.model.specs.Calls.{may_enrol, new_guest};
+ghost use Rattle.model.specs.Replies.{call_of};
+ghost use Rattle.sound.specs.Answered.{AnsweredOver};
+ghost use Rattle.model.specs.declared.Answer.TheVariants.{Limit};
 ghost use Rattle.model.specs.declared.Operation.TheVariants.{Enrol};
 
 use making::Placed;
-use model::{Answer, BASE, Caller, Guest, Kind, Reply, Settings, Space, State};
+use model::{Answer, BASE, Caller, Guest, Kind, Settings, State};
+use sound::Sound;
 
 // Whether ENROL may be made for a guest: 1 to 8 and not enrolled.
-fn may_enrol(guests: [Guest; 8], g: u32) -> bool
-    ensures { result ≡ may_enrol guests g }
+#[tactic(auto, unfolding(model::specs::Calls::may_enrol, lists::specs::Choice::both))]
+fn may_enrol(guests: &[Guest; 8], g: u32) -> bool
+    ensures { result ≡ may_enrol guests.now g }
 {
-    if g == 0 {
-        return false;
-    }
-    if 8 < g {
-        return false;
-    }
-    let at = (g - 1) as usize;
-    !guests[at].enrolled
+    1 <= g && g <= 8 && !guests[g as usize - 1].enrolled
 }
 
-// The first of ENROL's settings outside its limits: its place, 0 where there is none.
-fn wrong_setting(x: Settings) -> u8
-    ensures { result ≡ wrong_of x }
+fn outside(kind: Kind, place: u8) -> Result<(), Answer>
+    ensures { result ≡ Err (Limit kind place) }
 {
-    if x.pages == 0 {
-        return 2;
-    }
-    if 512 < x.pages {
-        return 2;
+    Err(Answer::Limit { kind, place })
+}
+
+// The first of ENROL's settings outside its limits refuses it.
+#[tactic(auto, unfolding(crate::specs::Enrolling::settings_checked, lists::specs::Choice::choose, lists::specs::Choice::both))]
+fn check(x: Settings) -> Result<(), Answer>
+    ensures { result ≡ settings_checked x }
+{
+    if x.pages == 0 || 512 < x.pages {
+        return outside(Kind::Pages, 2);
     }
     if 31 < x.allowance {
-        return 3;
+        return outside(Kind::Allowance, 3);
     }
     if 1 < x.share {
-        return 4;
+        return outside(Kind::Flag, 4);
     }
-    if x.list == 0 {
-        return 5;
-    }
-    if 30 < x.list {
-        return 5;
+    if x.list == 0 || 30 < x.list {
+        return outside(Kind::ListSize, 5);
     }
     if 1 < x.asf {
-        return 6;
+        return outside(Kind::Flag, 6);
     }
-    0
-}
-
-// The kind of the setting at a place.
-fn kind_at(place: u8) -> Kind
-    ensures { result ≡ kind_at place }
-{
-    if place == 2 {
-        return Kind::Pages;
-    }
-    if place == 3 {
-        return Kind::Allowance;
-    }
-    if place == 5 {
-        return Kind::ListSize;
-    }
-    Kind::Flag
+    Ok(())
 }
 
 // The guest, of settings inside their limits.
+#[tactic(auto, unfolding(model::specs::Calls::new_guest))]
 fn new_guest(x: Settings) -> Guest
     requires { (x.allowance < 256) × (x.list < 256) }
     ensures { result ≡ new_guest x }
@@ -83,48 +65,27 @@ fn new_guest(x: Settings) -> Guest
     }
 }
 
-// All its checks, on the tables that they look at.
-fn decide(
-    spaces: [Space; 32],
-    guests: [Guest; 8],
-    frames: u32,
-    next: u32,
-    caller: Caller,
-    settings: Settings,
-) -> Placed
-    requires { frames ≤ 512 }
-    ensures { EnrolsTo frames next spaces guests caller settings result }
+// All its checks.
+fn decide(s: &State, caller: Caller, settings: Settings) -> Result<Placed, Answer>
+    requires { s.now.frames ≤ 512 }
+    ensures { EnrolsTo s.now.frames s.now.next s.now.spaces s.now.guests caller settings result }
 {
-    if !may_enrol(guests, caller.guest) {
-        return Placed::Refused(Answer::BadCaller);
+    if !may_enrol(&s.guests, caller.guest) {
+        return Err(Answer::BadCaller);
     }
-    let wrong = wrong_setting(settings);
-    if wrong != 0 {
-        return Placed::Refused(Answer::Limit {
-            kind: kind_at(wrong),
-            place: wrong,
-        });
-    }
-    making::place(spaces, frames, next, caller.guest, BASE, settings.pages)
+    check(settings)?;
+    making::place(s, caller.guest, BASE, settings.pages)
 }
 
-// The state is changed where it stands, and one reply is made of it at the end: any other reply would be one more copy of it.
-pub fn enrol(mut s: State, scratch: &mut [u8], caller: Caller, settings: Settings) -> Reply
-    requires { (sound s ≡ true) × (length scratch.old ≡ s.frames * 4096) }
-    ensures { Carried s (judge s (call_of caller (Enrol settings)) 0) result scratch.old scratch.new }
+pub fn enrol(s: &mut Sound, scratch: &mut [u8], caller: Caller, settings: Settings) -> Answer
+    requires { length scratch.old ≡ s.old.state.now.frames * 4096 }
+    ensures { AnsweredOver s.old (call_of caller (Enrol settings)) result s.new scratch.old scratch.new }
 {
-    let spaces = s.spaces;
-    let guests = s.guests;
-    let answer = match decide(spaces, guests, s.frames, s.next, caller, settings) {
-        Placed::Refused(refusal) => refusal,
-        Placed::At { slot, space } => {
-            frames::clear(scratch, space.first as usize, space.pages as usize);
-            let at = (caller.guest - 1) as usize;
-            s.guests[at] = new_guest(settings);
-            s.next = s.next + 1;
-            s.spaces[slot as usize] = space;
-            Answer::Done { value: space.id }
+    match decide(s.state, caller, settings) {
+        Ok(placed) => {
+            s.state.guests[caller.guest as usize - 1] = new_guest(settings);
+            making::settle(s.state, scratch, placed)
         }
-    };
-    Reply { answer, state: s }
+        Err(refusal) => refusal,
+    }
 }

@@ -1,9 +1,20 @@
 -- What a program says on standard error of a read or a write that failed, as `session: writing failed (error 28) after the reply
 -- to line 17`.
-use Rattle.std.specs.Prelude.{ℕ, Bool, List, [], ◌∷◌, ◌++◌, eqb}
+use Rattle.std.specs.Prelude.{ℕ, Bool, true, false, List, [], ◌∷◌, ◌++◌, eqb}
 use Rattle.lists.specs.Choice.{choose}
 use Rattle.lists.specs.Text.{bytes}
 use Rattle.model.specs.Session.{decimal}
+use Rattle.relay.specs.declared.Failure.{Failure}
+use Rattle.relay.specs.declared.Failure.TheVariants.{Reading, Writing}
+
+-- what failed, and the number of the error
+abbrev pub is_reading : Failure → Bool
+is_reading (Reading e) = true
+is_reading (Writing e) = false
+
+abbrev pub error_of : Failure → ℕ
+error_of (Reading e) = e
+error_of (Writing e) = e
 
 unfoldable pub kind_text : (reading : Bool) → List ℕ
 kind_text reading = choose reading (bytes ": reading failed (error ") (bytes ": writing failed (error ")

@@ -2,100 +2,86 @@
 // line that it writes, and `last` what it calls any other, its number left out.
 #![tactic(auto)]
 
-ghost use Rattle.std.specs.Prelude.{◌+◌, ◌≤◌, length};
-ghost use Rattle.digits.specs.Wrote.{Wrote};
-ghost use Rattle.failures.specs.Message.{kind_text, failure_text, place_text, message_text};
+ghost use Rattle.std.specs.Prelude.{◌+◌, ◌≤◌, ◌++◌, length};
+ghost use Rattle.model.specs.Session.{decimal};
+ghost use Rattle.digits.specs.Wrote.{HasRoom, Adds};
+ghost use Rattle.failures.specs.Message.{is_reading, error_of, kind_text, place_text, message_text};
 
-use relay::{Ending, How};
+use digits::Text;
+use relay::{Ending, Failure};
 use std::io::Write;
 
-fn put_text(out: &mut [u8], at: usize, text: &[u8]) -> usize
-    requires { at + length text.now ≤ length out.old }
-    ensures { Wrote out.old at text.now out.new result }
-{
-    moves::put(&mut out[at..], text);
-    at + text.len()
-}
-
-fn put_kind(out: &mut [u8], at: usize, reading: bool) -> usize
-    requires { at + 24 ≤ length out.old }
-    ensures wrote { Wrote out.old at (kind_text reading) out.new result }
-    ensures short { result ≤ at + 24 }
-{
-    if reading {
-        return put_text(out, at, b": reading failed (error ");
-    }
-    put_text(out, at, b": writing failed (error ")
-}
-
 // What failed, and the number of the error.
-fn put_failure(out: &mut [u8], name: &[u8], reading: bool, error: u32) -> usize
-    requires { length name.now + 44 ≤ length out.old }
-    ensures wrote { Wrote out.old 0 (failure_text name.now reading error) out.new result }
-    ensures short { result ≤ length name.now + 44 }
+fn put_failure(text: &mut Text, failure: Failure)
+    requires { HasRoom text.old 44 }
+    ensures adds { Adds text.old (kind_text (is_reading failure) ++ decimal (error_of failure)) text.new }
+    ensures short { text.new.at ≤ text.old.at + 44 }
 {
-    let a = put_text(out, 0, name);
-    let b = put_kind(out, a, reading);
-    digits::put_decimal(out, b, error as u64)
+    match failure {
+        Failure::Reading { error } => {
+            text.put_bytes(b": reading failed (error ");
+            text.put_decimal(u64::from(error));
+        }
+        Failure::Writing { error } => {
+            text.put_bytes(b": writing failed (error ");
+            text.put_decimal(u64::from(error));
+        }
+    }
 }
 
 // The last line that was written whole.
-fn put_place(out: &mut [u8], at: usize, first: &[u8], last: &[u8], line: u64) -> usize
-    requires { (at + length first.now + 10 ≤ length out.old) × (at + length last.now + 29 ≤ length out.old) }
-    ensures { Wrote out.old at (place_text first.now last.now line) out.new result }
+fn put_place(text: &mut Text, first: &[u8], last: &[u8], line: u64)
+    requires { HasRoom text.old (length first.now + 10) × HasRoom text.old (length last.now + 29) }
+    ensures { Adds text.old (place_text first.now last.now line) text.new }
 {
     if line == 0 {
-        let a = put_text(out, at, b") before ");
-        let b = put_text(out, a, first);
-        return digits::put_byte(out, b, b'\n');
+        text.put_bytes(b") before ");
+        text.put_bytes(first);
+        text.put_byte(b'\n');
+        return;
     }
-    let a = put_text(out, at, b") after ");
-    let b = put_text(out, a, last);
-    let c = digits::put_decimal(out, b, line);
-    digits::put_byte(out, c, b'\n')
+    text.put_bytes(b") after ");
+    text.put_bytes(last);
+    text.put_decimal(line);
+    text.put_byte(b'\n');
 }
 
-fn put_message(
-    out: &mut [u8],
-    name: &[u8],
-    first: &[u8],
-    last: &[u8],
-    reading: bool,
-    error: u32,
-    line: u64,
-) -> usize
-    requires { (length name.now + length first.now + 54 ≤ length out.old) × (length name.now + length last.now + 73 ≤ length out.old) }
-    ensures { Wrote out.old 0 (message_text name.now first.now last.now reading error line) out.new result }
+fn put_message(text: &mut Text, name: &[u8], first: &[u8], last: &[u8], failure: Failure, line: u64)
+    requires { HasRoom text.old (length name.now + length first.now + 54) × HasRoom text.old (length name.now + length last.now + 73) }
+    ensures { Adds text.old (message_text name.now first.now last.now (is_reading failure) (error_of failure) line) text.new }
 {
-    let at = put_failure(out, name, reading, error);
-    put_place(out, at, first, last, line)
+    text.put_bytes(name);
+    put_failure(text, failure);
+    put_place(text, first, last, line);
 }
 
-// One line.
+// One line. The three texts are handed straight down, and put together nowhere else: a struct of them would be made and taken apart
+// once.
 fn complain<W: Write>(
     to: &mut W,
     name: &[u8],
     first: &[u8],
     last: &[u8],
-    reading: bool,
-    error: u32,
+    failure: Failure,
     line: u64,
 )
     requires { (length name.now + length first.now ≤ 50) × (length name.now + length last.now ≤ 50) }
 {
-    let mut text = [0u8; 128];
-    let n = put_message(&mut text, name, first, last, reading, error, line);
-    descriptors::send(to, &text[0..n]);
+    let mut room = [0u8; 128];
+    let mut text = Text {
+        out: &mut room,
+        at: 0,
+    };
+    put_message(&mut text, name, first, last, failure, line);
+    let n = text.at;
+    let _ = descriptors::send(to, &room[..n]);
 }
 
 // How the work ended, where that was not the end of the input.
 pub fn tell<W: Write>(to: &mut W, end: Ending, name: &[u8], first: &[u8], last: &[u8])
     requires { (length name.now + length first.now ≤ 50) × (length name.now + length last.now ≤ 50) }
 {
-    let how = end.how;
-    match how {
-        How::Answered => {}
-        How::ReadingFailed { error } => complain(to, name, first, last, true, error, end.line),
-        How::WritingFailed { error } => complain(to, name, first, last, false, error, end.line),
+    if let Err(failure) = end.how {
+        complain(to, name, first, last, failure, end.line);
     }
 }

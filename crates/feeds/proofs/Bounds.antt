@@ -1,7 +1,7 @@
 -- What a caller learns of a feed and of a finish: what was taken lies in the input, what was written lies in `out`, and where
 -- there is room for a reply something was taken. Assumes nothing.
 use Prim.Native.Nat.{ℕ, zero, suc, ◌≤◌, ◌<◌}
-use mathlib.Core.Bool.{Bool}
+use mathlib.Core.Bool.{Bool, false}
 use mathlib.Core.List.{List}
 use native.Mathlib.Omega.{arith}
 use lib.ListN.{length}
@@ -23,3 +23,7 @@ fed_some f input out (suc used) written f' out' t k n = omega arith
 pub finished_written : (f : Feed) (m out : List ℕ) (done : Bool) (written : ℕ) (m' out' : List ℕ) → FinishedTo f m out done written m' out' → written ≤ length out
 finished_written f m out _ _ m' out' (finished k w e) = omega (arith, w.room, w.place)
 finished_written f m out _ _ _ _ (full k) = omega arith
+
+-- the end is left undone only where there is no room for a reply
+pub undone_room : {f : Feed} {m out m' out' : List ℕ} {written : ℕ} → FinishedTo f m out false written m' out' → length out < 600
+undone_room (full k) = k

@@ -2,19 +2,18 @@
 use Prim.Native.Nat.{ℕ, ◌+◌, ◌≤◌}
 use mathlib.Core.Bool.{true, false}
 use mathlib.Core.List.{List, [], ◌∷◌, append-nil}
-use mathlib.Core.Path.{◌≡◌, sym, ap, ◌∙◌}
+use mathlib.Core.Path.{◌≡◌, refl, sym, ap, ◌∙◌}
 use native.Mathlib.Decide.{dec_le}
 use native.Mathlib.Omega.{arith}
 use lib.Dec.{eqb}
-use lib.ListN.{length, take, replicate, length-replicate}
+use lib.ListN.{length, take, length-take}
 use borrow.Author.Tests.{eq-eqb, ne_eqb}
-use Rattle.lists.specs.Bytes.{over}
 use Rattle.lists.specs.Choice.{choose}
-use Rattle.lists.proofs.Bytes.{over_whole}
 use Rattle.lists.proofs.Choice.{yes!, no! }
 use Rattle.digits.specs.Wrote.{Wrote}
 use Rattle.digits.proofs.Writing.{wrote_none}
-use Rattle.feeds.specs.Feed.{Feed, ended, reply_to, next, says, after, said, last_words}
+use Rattle.model.specs.Session.{Session}
+use Rattle.feeds.specs.Feed.{Work, Feed, feed_at, ended, reply_to, next, says, after, said, last_words}
 use Rattle.feeds.specs.Fed.{FedTo, closing, FinishedTo, finished}
 
 -- A line that is held ends as by a newline.
@@ -41,12 +40,6 @@ module _ {f g : Feed} {out out' : List ℕ} {used written : ℕ} (room : 600 ≤
   unfolding after next choose
   last_after = rw taken at t.going.feed
 
--- what is held, copied
-pub copied : (line held : List ℕ) → line ≡ over (replicate 601 0) 0 held → length held ≡ 601 → line ≡ held
-copied line held e l =
-    let z : length (replicate {A = ℕ} 601 0) ≡ 601 = length-replicate {A = ℕ} 601 0 in
-    e ∙ over_whole (replicate 601 0) held (z ∙ sym l)
-
 -- no byte is held
 pub finish_none : (f : Feed) (out : List ℕ) → 600 ≤ length out → length f.held ≡ 0 → FinishedTo f f.session.scratch out true 0 f.session.scratch out
 unfolding last_words closing
@@ -63,3 +56,12 @@ finish_line f m m₁ out out₁ written l z w c =
     let some : eqb (length f.held) 0 ≡ false = ne_eqb (length f.held) 0 z in
     let words : Wrote out 0 (last_words f) out₁ written = rw (no! [] (reply_to f) some) w in
     finished l words (c ∙ ap (λ (g : Feed). g.session.scratch) (sym (no! f (ended f) some)))
+
+-- where so many bytes of `held` are held
+module _ (v : Work) (s : Session) (n have : ℕ) (h m out : List ℕ) (room : 600 ≤ length out) where
+  pub none_held : s.scratch ≡ m → have ≡ 0 → FinishedTo (feed_at v s n have h) m out true 0 m out
+  none_held e z = rw (← e) (finish_none (feed_at v s n have h) out room (rw z refl))
+
+  pub some_held : length h ≡ 601 → (have ≡ 0 → ⊥) → (m₁ out₁ : List ℕ) (written : ℕ) → Wrote out 0 (reply_to (feed_at v s n have h)) out₁ written
+      → m₁ ≡ (ended (feed_at v s n have h)).session.scratch → FinishedTo (feed_at v s n have h) m out true written m₁ out₁
+  some_held long z m₁ out₁ written w c = finish_line (feed_at v s n have h) m m₁ out out₁ written room (λ q. z (omega (arith, length-take have h, q))) w c

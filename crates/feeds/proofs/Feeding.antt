@@ -17,7 +17,7 @@ use Rattle.lists.proofs.Places.{lowest_from_holds, lowest_from_least}
 use Rattle.model.specs.Session.{Session}
 use Rattle.digits.specs.Wrote.{Wrote}
 use Rattle.digits.proofs.Writing.{wrote_none, wrote_more}
-use Rattle.feeds.specs.Feed.{Work, session_after, saying_to, number_after, Feed, ended, reply_to, with_held, holding, next, says, after, said, newline_from}
+use Rattle.feeds.specs.Feed.{Work, session_after, saying_to, number_after, Feed, ended, reply_to, with_held, holding, next, says, after, said, newline_from, whole_line, feed_at}
 use Rattle.feeds.specs.Fed.{Starts, Going, FedTo}
 use Rattle.feeds.proofs.Pieces.{after_append, said_append}
 
@@ -134,11 +134,7 @@ module _ (f : Feed) (input out out₁ : List ℕ) (i e a n : ℕ) (v : Work) (s 
       ap (said f) c ∙ said_append f x r ∙ rw (← g.feed) (ap (λ k. said f x ++ k) (plain_said (standing v s n h) _ p) ∙ append-nil (said f x)) in
       record { feed = ap (standing v s n) t ∙ sym y; text = rw z g.text; within = less; room = λ k b u. still_room k (omega arith) u }
 
--- The loop stops where room is missing, and at the end of the input.
-pub fed_full : (f : Feed) (input out out₁ : List ℕ) (i a : ℕ) (f₁ : Feed) → Going f input out i a f₁ out₁ → length out₁ ≡ length out → length out₁ - a < 600 → Starts input i
-    → FedTo f input out i a f₁ out₁
-fed_full f input out out₁ i a f₁ g same h t = record { going = g; stopped = λ _. omega arith; at_start = λ _. t }
-
+-- The loop stops at the end of the input.
 pub fed_whole : (f : Feed) (input out out₁ : List ℕ) (i a : ℕ) (f₁ : Feed) → Going f input out i a f₁ out₁ → length input ≤ i → FedTo f input out i a f₁ out₁
 fed_whole f input out out₁ i a f₁ g h = record { going = g; stopped = λ k. absurd (omega arith); at_start = λ k. absurd (omega arith) }
 
@@ -148,3 +144,19 @@ line_starts input i e q l h = inr (ap (λ k. get_or input k 0) back ∙ newline_
   where
     back : e + 1 - 1 ≡ e
     back = omega arith
+
+-- a turn of the loop, and its end within a line, where so many bytes of `held` are held
+module _ (f : Feed) (input out out₁ held : List ℕ) (i e a n have : ℕ) (v : Work) (s : Session) (g : Going f input out i a (feed_at v s n have held) out₁)
+    (q : e ≡ newline_from input i) (l : i ≤ e) (long : length held ≡ 601) (fits : a + 600 ≤ length out) where
+  short : length (take have held) ≤ 601
+  short = omega (arith, length-take have held)
+
+  abbrev whole : List ℕ
+  whole = whole_line held have (take (e - i) (drop i input))
+
+  pub taken : e < length input → (s₁ : Session) (n₁ b have₁ : ℕ) (held₁ out₂ : List ℕ) → have₁ ≡ 0 → s₁ ≡ session_after v s whole → n₁ ≡ number_after v n whole
+      → Wrote out₁ a (saying_to v s n whole) out₂ b → Going f input out (e + 1) b (feed_at v s₁ n₁ have₁ held₁) out₂
+  taken less s₁ n₁ b have₁ held₁ out₂ z t j w = rw z (going_line f input out out₁ i e a n v s (take have held) g q l short fits s₁ n₁ out₂ b less t j w)
+
+  pub stopped : (k : ℕ) (held₁ : List ℕ) → e ≡ length input → take k held₁ ≡ whole → FedTo f input out e a (feed_at v s n k held₁) out₁
+  stopped k held₁ all kept = fed_whole f input out out₁ e a _ (going_part f input out out₁ i e a n v s (take have held) g q l short fits (take k held₁) (omega arith) kept) (omega arith)

@@ -6,5 +6,5 @@ pub mod Cut
 pub mod Ending
 pub mod Feeding
 pub mod Pieces
-pub mod Reading
 pub mod Used
+pub mod Taken

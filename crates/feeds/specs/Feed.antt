@@ -7,6 +7,7 @@ use Rattle.model.specs.Rewritten.{rewritten}
 use Rattle.model.specs.Session.{Session, line_turn, new_session, line_text, next_line}
 use Rattle.model.specs.Written.{takes}
 use Rattle.moves.specs.Found.{byte_from}
+use Rattle.feeds.specs.declared.Feeder.{Feeder}
 
 -- what becomes of a line that ends: the session answers it, or it is written again
 pub data Work : Type 0 where
@@ -107,3 +108,11 @@ newline_from l i = byte_from 10 l i
 -- a line whose first bytes are held and whose rest has come, as far as it matters
 abbrev pub whole_line : (held : List ℕ) → (have : ℕ) → (rest : List ℕ) → List ℕ
 whole_line held have rest = take 601 (take have held ++ rest)
+
+-- where a feed stands with so many bytes of `held`
+abbrev pub feed_at : Work → Session → (line have : ℕ) → (held : List ℕ) → Feed
+feed_at w s n k h = record { work = w; session = s; line = n; held = take k h }
+
+-- where a work stands between two pieces of input: `held` holds the line so far in its first bytes
+abbrev pub feed_of : {W : Type 0} → Work → (session : W → (scratch : List ℕ) → Session) → (number : W → ℕ) → Feeder W → (held scratch : List ℕ) → Feed
+feed_of w s n f h m = feed_at w (s f.work m) (n f.work) f.have h

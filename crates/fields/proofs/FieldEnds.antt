@@ -1,5 +1,5 @@
 -- Where a field ends. Assumes nothing.
-use Rattle.std.proofs.Common.{◌≡◌, ℕ, ◌+◌, ◌<◌, ◌≤◌, Bool, true, false, eqb, List, [], ◌∷◌, length, get_or, sym, refl, ap, ◌∙◌, arith, drop_of_length-le, eq-eqb, ne_eqb, eqb-true}
+use Rattle.std.proofs.Common.{◌≡◌, ℕ, ◌+◌, ◌<◌, ◌≤◌, Bool, true, false, eqb, List, [], ◌∷◌, length, get_or, sym, refl, ap, ◌∙◌, arith, drop_of_length-le, leb, le-leb, eq-eqb, ne_eqb, eqb-true}
 use borrow.Author.Tests.{eqb-false}
 use Rattle.lists.proofs.Choice.{yes!, no! }
 use Rattle.lists.proofs.Parts.{no_elements, drop_next}
@@ -18,8 +18,8 @@ unfolding first_field
 at_tab l i h e = ap first_field (drop_next l i 0 h) ∙ yes! _ _ (eq-eqb (get_or l i 0) 9 e)
 
 -- as the code tests it
-pub ends_past : (l : List ℕ) (i : ℕ) → length l ≤ i → true ≡ eqb (length (field_from l i)) 0
-ends_past l i h = sym (eq-eqb (length (field_from l i)) 0 (ap length (past_end l i h)))
+pub ends_past : (l : List ℕ) (i : ℕ) → length l ≤ i → leb (length l) i ≡ eqb (length (field_from l i)) 0
+ends_past l i h = le-leb (length l) i h ∙ sym (eq-eqb (length (field_from l i)) 0 (ap length (past_end l i h)))
 
 pub ends_inside : (l : List ℕ) (i : ℕ) → i < length l → eqb (get_or l i 0) 9 ≡ eqb (length (field_from l i)) 0
 ends_inside l i h = go (eqb (get_or l i 0) 9) refl

@@ -1,6 +1,5 @@
 -- Laws of one field.
 pub mod FieldEnds
-pub mod KindNumbers
 pub mod Spelling
 pub mod Bytewise
 pub mod Readings

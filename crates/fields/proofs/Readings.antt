@@ -1,15 +1,15 @@
 -- A field is read byte by byte: what the rest of it tells is told by the next byte and the rest after it. Assumes nothing.
-use Rattle.std.proofs.Common.{◌≡◌, ℕ, suc, ◌+◌, ◌-◌, ◌*◌, ◌%◌, ◌^◌, ◌<◌, ◌≤◌, Bool, true, false, not, eqb, leb, List, [], ◌∷◌, ◌++◌, length, get_or, replicate, sym, refl, ap, ◌∙◌, mul-le-mul_right, pow-suc, add-one, arith, w8, w64, Fits, eq-eqb, ne_eqb, le-leb}
+use Rattle.std.proofs.Common.{Option, None, ◌≡◌, ℕ, suc, ◌+◌, ◌-◌, ◌*◌, ◌^◌, ◌<◌, ◌≤◌, Bool, true, false, not, eqb, leb, List, [], ◌∷◌, ◌++◌, length, get_or, replicate, sym, refl, ap, ◌∙◌, ⊎_elim, mul-le-mul_right, pow-suc, add-one, arith, w64, Fits, eq-eqb, ne_eqb, le-leb}
 use native.Mathlib.Nat.{pow-le-pow_right}
+use Rattle.std.specs.Int.{IsOutOfRange}
 use Rattle.lists.specs.Choice.{both}
 use Rattle.lists.proofs.Choice.{both_yes, both_no, both_intro, not_of}
 use Rattle.model.specs.Names.{digit}
 use Rattle.model.specs.Lines.{spelt, plain, digits, decimal_from, number_field, no_blank, packed, packed_name, name_field}
 use Rattle.fields.specs.declared.Field.{Field}
-use Rattle.fields.specs.declared.Field.TheVariants.{Is, Bad}
-use Rattle.fields.specs.Fields.{field_from, end_from, found, word_field}
-use Rattle.fields.proofs.FieldEnds.{field_step}
-use Rattle.fields.proofs.Spelling.{not_digit, plain_first, number_other, number_large, number_done, name_blank, name_long, name_done, word_long, word_done}
+use Rattle.fields.specs.Fields.{some_field, field_from, end_from, found, word_field}
+use Rattle.fields.proofs.FieldEnds.{field_step, at_tab, past_end}
+use Rattle.fields.proofs.Spelling.{name_none, not_digit, plain_first, number_other, number_large, number_done, name_blank, name_long, name_done, word_long, word_done}
 
 -- A field of the line l that starts at s is read up to i, from the value v₀ on: what was read is v, in a base in which it has
 -- at most k places more than there are bytes. It is a number of digits, or a name of bytes.
@@ -84,21 +84,10 @@ module _ {base : ℕ} {all : List ℕ → Bool} {total : ℕ → List ℕ → �
 abbrev pub Decimal : List ℕ → ℕ → ℕ → ℕ → Type 0
 Decimal = Reading 10 digits decimal_from 0 0
 
--- the digit b, given its value d; the difference wraps where b is no digit
-digit_is : (b d : ℕ) → (d + 48) % 256 ≡ b → d ≤ 9 → (digit b ≡ true) × (d ≡ b - 48)
-digit_is b d e h = (both_intro _ _ (le-leb 48 b (omega arith)) (le-leb b 57 (omega arith)), omega arith)
-
-digit_none : (b d : ℕ) → Fits w8 d → (d + 48) % 256 ≡ b → 9 < d → digit b ≡ false
-digit_none b d f e h = not_digit b (λ l. omega (arith, f.fits))
-
-digit_turn : (l : List ℕ) (s v i d : ℕ) → Decimal l s v i → i < length l → (d + 48) % 256 ≡ get_or l i 0 → d ≤ 9 → Decimal l s (v * 10 + d) (i + 1)
+digit_turn : (l : List ℕ) (s v i : ℕ) → Decimal l s v i → i < length l → 48 ≤ get_or l i 0 → get_or l i 0 ≤ 57 → Decimal l s (v * 10 + (get_or l i 0 - 48)) (i + 1)
 unfolding digits decimal_from
-digit_turn l s v i d r h e b =
-    let y = digit_is (get_or l i 0) d e b in
-    reading_turn 10 digit digits decimal_from (λ b. b - 48) 0 0 (λ b bs. refl) (λ v b bs. refl) l s v i d r h (λ z. omega arith) y.0 y.1 (omega arith)
-
-pub decimal_fits : (v d w : ℕ) → v ≤ 429496729 → d ≤ 9 → w ≡ d → Fits w64 (v * 10 + w)
-decimal_fits v d w h b e = record { fits = omega arith }
+digit_turn l s v i r h a b =
+    reading_turn 10 digit digits decimal_from (λ b. b - 48) 0 0 (λ b bs. refl) (λ v b bs. refl) l s v i _ r h (λ z. omega arith) (both_intro _ _ (le-leb 48 (get_or l i 0) a) (le-leb (get_or l i 0) 57 b)) refl (omega arith)
 
 module _ (l : List ℕ) (s : ℕ) where
   -- the first digit
@@ -106,33 +95,34 @@ module _ (l : List ℕ) (s : ℕ) where
   unfolding digits decimal_from
   decimal_start w h a b e =
       let z = reading_start 10 digit digits decimal_from (λ b. b - 48) 0 0 (λ b bs. refl) (λ v b bs. refl) l s (omega arith) (omega arith) in
-      let q : w ≡ 0 * 10 + w = omega arith in
-      rw q (digit_turn l s 0 s w z h (omega arith) (omega arith))
+      let q : w ≡ 0 * 10 + (get_or l s 0 - 48) = omega arith in
+      rw q (digit_turn l s 0 s z h (omega arith) b)
 
   pub decimal_plain : s < length l → 48 < get_or l s 0 → plain (field_from l s) ≡ true
   decimal_plain h a =
       ap plain (field_step l s h (λ z. omega arith)) ∙ plain_first (get_or l s 0) (field_from l (s + 1)) (λ z. omega arith)
 
-  -- one more
-  module _ (v i : ℕ) (r : Decimal l s v i) (h : i < length l) (d : ℕ) (e : (d + 48) % 256 ≡ get_or l i 0) where
-    pub decimal_turn : d ≤ 9 → (w : ℕ) → w ≡ d → Decimal l s (v * 10 + w) (i + 1)
-    decimal_turn b w p = rw p (digit_turn l s v i d r h e b)
+  -- one more byte
+  module _ (v i : ℕ) (r : Decimal l s v i) (h : i < length l) where
+    pub decimal_turn : 48 ≤ get_or l i 0 → get_or l i 0 ≤ 57 → (w : ℕ) → w ≡ get_or l i 0 - 48 → Decimal l s (v * 10 + w) (i + 1)
+    decimal_turn a b w p = rw p (digit_turn l s v i r h a b)
 
-    pub decimal_other : Fits w8 d → 9 < d → (get_or l i 0 ≡ 9 → ⊥) → Bad ≡ found (number_field (field_from l s)) (end_from l s)
+    pub decimal_other : IsOutOfRange 48 57 (get_or l i 0) → (get_or l i 0 ≡ 9 → ⊥) → None ≡ found (number_field (field_from l s)) (end_from l s)
     unfolding digits decimal_from
-    decimal_other f b n =
-        number_other (field_from l s) (end_from l s) (reading_stop 10 digit digits decimal_from (λ b. b - 48) 0 0 (λ b bs. refl) (λ v b bs. refl) l s v i r h n (digit_none (get_or l i 0) d f e b))
+    decimal_other o n =
+        let d = not_digit (get_or l i 0) (λ b. ⊎_elim (λ h. omega arith) (λ h. h) o) in
+        number_other (field_from l s) (end_from l s) (reading_stop 10 digit digits decimal_from (λ b. b - 48) 0 0 (λ b bs. refl) (λ v b bs. refl) l s v i r h n d)
 
-    pub decimal_large : d ≤ 9 → 429496729 < v → Bad ≡ found (number_field (field_from l s)) (end_from l s)
-    decimal_large b m =
+    pub decimal_large : 48 ≤ get_or l i 0 → 429496729 < v → None ≡ found (number_field (field_from l s)) (end_from l s)
+    decimal_large a m =
         number_large (field_from l s) (end_from l s) v (get_or l i 0) (field_from l (i + 1)) (sym (ap (decimal_from v) (field_step l i h (λ z. omega arith))) ∙ r.sum) m
 
   -- all are read
   module _ (v i : ℕ) (r : Decimal l s v i) where
-    pub decimal_done : (f : Field) → plain (field_from l s) ≡ true → field_from l i ≡ [] → f ≡ found (spelt (leb v 4294967295) v) i → f ≡ found (number_field (field_from l s)) (end_from l s)
+    pub decimal_done : (f : Option Field) (e : ℕ) → plain (field_from l s) ≡ true → field_from l i ≡ [] → f ≡ found (spelt (leb v 4294967295) v) e → e ≡ i → f ≡ found (number_field (field_from l s)) (end_from l s)
     unfolding digits decimal_from
-    decimal_done f p n t =
-        number_done (field_from l s) f v i (end_from l s) p (reading_good l s v i r n refl) (reading_is l s v i r n (λ v. refl)) (reading_end l s v i r n) t
+    decimal_done f e p n t q =
+        number_done (field_from l s) f v e (end_from l s) p (reading_good l s v i r n refl) (reading_is l s v i r n (λ v. refl)) (q ∙ reading_end l s v i r n) t
 
 -- each element is a byte
 pub record Bytes (l : List ℕ) : Type 0 where
@@ -165,30 +155,30 @@ module _ (l : List ℕ) (s v i : ℕ) (r : Letters l s v i) where
   letters_turn w h n m b e =
       reading_turn 256 (λ b. not (eqb b 32)) no_blank packed (λ b. b) 0 0 (λ b bs. refl) (λ v b bs. refl) l s v i w r h n (not_of _ (ne_eqb (get_or l i 0) 32 m)) e (omega (arith, b.byte i))
 
-  pub letters_blank : i < length l → (get_or l i 0 ≡ 9 → ⊥) → get_or l i 0 ≡ 32 → Bad ≡ found (name_field (field_from l s)) (end_from l s)
+  pub letters_blank : i < length l → get_or l i 0 ≡ 32 → None ≡ found (name_field (field_from l s)) (end_from l s)
   unfolding no_blank packed
-  letters_blank h n e =
-      name_blank (field_from l s) (end_from l s) (reading_stop 256 (λ b. not (eqb b 32)) no_blank packed (λ b. b) 0 0 (λ b bs. refl) (λ v b bs. refl) l s v i r h n (ap not (eq-eqb (get_or l i 0) 32 e)))
+  letters_blank h e =
+      name_blank (field_from l s) (end_from l s) (reading_stop 256 (λ b. not (eqb b 32)) no_blank packed (λ b. b) 0 0 (λ b bs. refl) (λ v b bs. refl) l s v i r h (λ z. omega arith) (ap not (eq-eqb (get_or l i 0) 32 e)))
 
-  pub letters_long : i < length l → (get_or l i 0 ≡ 9 → ⊥) → 7 < i - s → Bad ≡ found (name_field (field_from l s)) (end_from l s)
+  pub letters_long : i < length l → (get_or l i 0 ≡ 9 → ⊥) → 8 ≤ i - s → None ≡ found (name_field (field_from l s)) (end_from l s)
   letters_long h n b = name_long (field_from l s) (end_from l s) (omega (arith, reading_inside l s v i r h n))
 
-  pub letters_scaled : i - s ≤ 7 → Fits w64 (v * 256)
+  pub letters_scaled : i - s < 8 → Fits w64 (v * 256)
   letters_scaled h = packed_scaled l s v i r (omega arith)
 
-  pub letters_fits : (w : ℕ) → i - s ≤ 7 → Bytes l → w ≡ get_or l i 0 → Fits w64 (v * 256 + w)
+  pub letters_fits : (w : ℕ) → i - s < 8 → Bytes l → w ≡ get_or l i 0 → Fits w64 (v * 256 + w)
   letters_fits w h b e = packed_fits l s v i r (omega arith) w b e
 
   pub letters_small : v < 256 ^ (i - s)
   letters_small = let e : 0 + (i - s) ≡ i - s = omega arith in rw e at r.small
 
-  pub letters_done : (f : Field) → i - s ≤ 8 → field_from l i ≡ [] → f ≡ found (spelt (leb 1 (i - s)) (packed v (replicate (8 - (i - s)) 32))) i
+  pub letters_done : (f : Option Field) (e : ℕ) → i - s ≤ 8 → field_from l i ≡ [] → f ≡ found (spelt (leb 1 (e - s)) (packed v (replicate (8 - (e - s)) 32))) e → e ≡ i
       → f ≡ found (name_field (field_from l s)) (end_from l s)
   unfolding no_blank packed packed_name
-  letters_done f h n t =
+  letters_done f e h n t q =
       let p = reading_is l s v i r n (λ v. refl) in
       let m = reading_length l s v i r n in
-      name_done (field_from l s) f _ (i - s) i (end_from l s) (reading_good l s v i r n refl) m h (rw (p, ← m) (sym (packed_more 0 (field_from l s) (replicate (8 - length (field_from l s)) 32)))) (reading_end l s v i r n) t
+      name_done (field_from l s) f _ (i - s) i (end_from l s) (reading_good l s v i r n refl) m h (rw (p, ← m) (sym (packed_more 0 (field_from l s) (replicate (8 - length (field_from l s)) 32)))) (reading_end l s v i r n) (rw q at t)
 
 -- a call's name, of any bytes
 unfoldable pub any_bytes : List ℕ → Bool
@@ -208,16 +198,16 @@ module _ (l : List ℕ) (v i : ℕ) (r : Word l 0 v i) where
   word_turn w h n b e =
       reading_turn 256 (λ b. true) any_bytes packed (λ b. b) 1 1 (λ b bs. refl) (λ v b bs. refl) l 0 v i w r h n refl e (omega (arith, b.byte i))
 
-  pub word_scaled : i ≤ 7 → (i ≡ 7 → ⊥) → Fits w64 (v * 256)
-  word_scaled h n = packed_scaled l 0 v i r (omega arith)
+  pub word_scaled : i < 7 → Fits w64 (v * 256)
+  word_scaled h = packed_scaled l 0 v i r (omega arith)
 
-  pub word_fits : (w : ℕ) → i ≤ 7 → (i ≡ 7 → ⊥) → Bytes l → w ≡ get_or l i 0 → Fits w64 (v * 256 + w)
-  word_fits w h n b e = packed_fits l 0 v i r (omega arith) w b e
+  pub word_fits : (w : ℕ) → i < 7 → Bytes l → w ≡ get_or l i 0 → Fits w64 (v * 256 + w)
+  word_fits w h b e = packed_fits l 0 v i r (omega arith) w b e
 
-  pub word_over : i < length l → (get_or l i 0 ≡ 9 → ⊥) → i ≡ 7 → Bad ≡ found (word_field (field_from l 0)) (end_from l 0)
+  pub word_over : i < length l → (get_or l i 0 ≡ 9 → ⊥) → 7 ≤ i → None ≡ found (word_field (field_from l 0)) (end_from l 0)
   word_over h n e = word_long (field_from l 0) (end_from l 0) (omega (arith, reading_inside l 0 v i r h n))
 
-  pub word_whole : i ≤ 7 → field_from l i ≡ [] → Is v i ≡ found (word_field (field_from l 0)) (end_from l 0)
+  pub word_whole : i ≤ 7 → field_from l i ≡ [] → some_field v i ≡ found (word_field (field_from l 0)) (end_from l 0)
   unfolding packed
   word_whole h n =
       word_done (field_from l 0) v i (end_from l 0) (omega (arith, reading_length l 0 v i r n)) (reading_is l 0 v i r n (λ v. refl)) (reading_end l 0 v i r n)
@@ -228,23 +218,27 @@ pub record Padding (v n p k : ℕ) : Type 0 where
   pub small : p < 256 ^ k
   pub sum : packed p (replicate (8 - k) 32) ≡ packed v (replicate (8 - n) 32)
 
-pub padding_start : (v n : ℕ) → n ≤ 8 → v < 256 ^ n → Padding v n v n
-padding_start v n l h = record { most = l; small = h; sum = refl }
-
-pub padding_turn : (v n p k : ℕ) → Padding v n p k → k < 8 → Padding v n (p * 256 + 32) (k + 1)
+pub padding_turn : (v n p k b : ℕ) → Padding v n p k → k < 8 → b ≡ 32 → Padding v n (p * 256 + b) (k + 1)
 unfolding packed
-padding_turn v n p k s h = record {
+padding_turn v n p k b s h q = rw q (record {
   most = omega arith;
   small = more_below 256 p 32 k s.small (omega arith);
   sum = let e : 8 - k ≡ suc (8 - (k + 1)) = omega arith in sym (ap (λ j. packed p (replicate j 32)) e) ∙ s.sum;
-}
+})
 
 pub padding_scaled : (v n p k : ℕ) → Padding v n p k → k < 8 → Fits w64 (p * 256)
 padding_scaled v n p k s h = record { fits = omega (arith, within 256 p 32 k 8 s.small (omega arith) h) }
 
-pub padding_fits : (v n p k : ℕ) → Padding v n p k → k < 8 → Fits w64 (p * 256 + 32)
-padding_fits v n p k s h = record { fits = within 256 p 32 k 8 s.small (omega arith) h }
+pub padding_fits : (v n p k b : ℕ) → Padding v n p k → k < 8 → b ≡ 32 → Fits w64 (p * 256 + b)
+padding_fits v n p k b s h q = rw q (record { fits = within 256 p 32 k 8 s.small (omega arith) h })
 
 pub padding_end : (v n p k : ℕ) → Padding v n p k → 8 ≤ k → p ≡ packed v (replicate (8 - n) 32)
 unfolding packed
 padding_end v n p k s h = let e : 8 - k ≡ 0 = omega arith in sym (ap (λ j. packed p (replicate j 32)) e) ∙ s.sum
+
+-- by the function that they prove
+pub ruleset paddings = (padding_turn, padding_scaled, padding_fits, padding_end)
+
+pub ruleset words = (word_scaled, word_fits, word_over, word_whole, at_tab, past_end, arith)
+
+pub ruleset names = (name_none, letters_start, letters_scaled, letters_fits, letters_blank, letters_long, letters_small, letters_done, at_tab, past_end, arith)

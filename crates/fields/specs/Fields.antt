@@ -1,12 +1,11 @@
--- One field, as the code finds it: where it stands, what it spells and where it ends; its kind as a number; and a count of
--- bytes that are no digits.
-use Rattle.std.specs.Prelude.{ℕ, ◌+◌, not, List, [], ◌∷◌, length, drop, ◌==◌, nat_le, slice_index}
+-- One field, as the code finds it: where it stands, what it spells and where it ends, and its kind.
+use Rattle.std.specs.Prelude.{ℕ, ◌+◌, List, [], ◌∷◌, Option, None, Some, length, drop, ◌==◌, nat_le}
 use Rattle.lists.specs.Choice.{choose}
-use Rattle.lists.specs.Places.{count}
 use Rattle.lists.specs.Text.{byte}
-use Rattle.model.specs.Lines.{Spelt, is, bad, spelt, packed, FieldKind, number, name, right, hex, hex_digit}
+use Rattle.model.specs.Lines.{Spelt, is, bad, spelt, packed, FieldKind, number, name, right, hex}
 use Rattle.fields.specs.declared.Field.{Field}
-use Rattle.fields.specs.declared.Field.TheVariants.{Is, Bad}
+use Rattle.fields.specs.declared.Kind.{Kind}
+use Rattle.fields.specs.declared.Kind.TheVariants.{Number, Name, Right, Data}
 
 -- what stands before the first tab
 unfoldable pub first_field : List ℕ → List ℕ
@@ -21,25 +20,28 @@ abbrev pub end_from : List ℕ → ℕ → ℕ
 end_from l s = s + length (field_from l s)
 
 -- what a field spells, with its end
-unfoldable pub found : Spelt → (end : ℕ) → Field
-found (is n) e = Is n e
-found bad e = Bad
+abbrev pub some_field : (value end : ℕ) → Option Field
+some_field v e = Some (record { value = v; end = e })
+
+unfoldable pub found : Spelt → (end : ℕ) → Option Field
+found (is n) e = some_field n e
+found bad e = None
 
 -- A call's name as one number: a 1 and then its bytes, so that the number tells how many there are. No call's name has more
 -- than seven.
 unfoldable pub word_field : List ℕ → Spelt
 word_field f = spelt (nat_le (length f) 7) (packed 1 f)
 
-unfoldable pub kind_number : FieldKind → ℕ
-kind_number number = 1
-kind_number name = 2
-kind_number right = 3
-kind_number hex = 4
+-- the model's word for a kind
+abbrev pub kind_of : Kind → FieldKind
+kind_of Number = number
+kind_of Name = name
+kind_of Right = right
+kind_of Data = hex
 
--- the kinds but data, which are the last field of a line
-unfoldable pub short_kind : ℕ → FieldKind
-short_kind n = choose (nat_le n 1) number (choose (n == 2) name right)
-
--- how many of the 64 bytes of l from i on are no hexadecimal digits
-abbrev pub others_in_block : List ℕ → ℕ → ℕ
-others_in_block l i = count (λ k. not (hex_digit (slice_index l (i + k)))) 64
+-- the bytes of a field of a kind that starts at s: data run to the line's end
+abbrev pub stretch : FieldKind → List ℕ → ℕ → List ℕ
+stretch number l s = field_from l s
+stretch name l s = field_from l s
+stretch right l s = field_from l s
+stretch hex l s = drop s l

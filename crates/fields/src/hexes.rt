@@ -3,21 +3,16 @@ ghost use Rattle.std.specs.Prelude.{◌≡◌, ◌+◌, ◌*◌, ◌/◌, ◌%�
 ghost use Rattle.lists.specs.Bytes.{over};
 ghost use Rattle.model.specs.Lines.{hex_digit, hex_value, hex_digits, hex_bytes};
 
-fn wide16(b: u8) -> u16
-    ensures { (result ≡ b) × (result < 256) }
-{
-    b as u16
-}
-
 // Two digits at once, the first lower: the compiler reads them as one number, and decodes many pairs at a time.
-fn pair(f: &[u8], i: usize) -> u16
-    requires { i + i + 1 < length f.now }
-    ensures { (result % 256 ≡ slice_index f.now (i + i)) × (result / 256 ≡ slice_index f.now (i + i + 1)) }
+fn pair(digits: &[u8]) -> u16
+    requires { length digits.now ≡ 2 }
+    ensures { (result % 256 ≡ slice_index digits.now 0) × (result / 256 ≡ slice_index digits.now 1) }
 {
-    wide16(f[i + i]) + wide16(f[i + i + 1]) * 256
+    u16::from(digits[0]) + u16::from(digits[1]) * 256
 }
 
 // The lower four bits, and 9 more for a letter, which has bit 6.
+#[tactic(auto, using(crate::proofs::Spelling::value_is, crate::proofs::Spelling::value_small))]
 fn hex_value(b: u16) -> u16
     requires { hex_digit b ≡ true }
     ensures { (result ≡ hex_value b) × (result ≤ 15) }
@@ -37,10 +32,8 @@ pub fn decode(f: &[u8], out: &mut [u8])
     requires { (hex_digits f.now ≡ true) × (length f.now / 2 ≤ length out.old) }
     ensures { out.new ≡ over out.old 0 (hex_bytes f.now) }
 {
-    let n = f.len() / 2;
-    let mut i: usize = 0;
-    while i < n {
-        out[i] = byte_of(pair(f, i));
-        i += 1;
+    // The place is counted: through items of `out`, what is written goes by their loans, and the loop's invariant can't name `out`.
+    for (i, digits) in f.chunks_exact(2).enumerate() {
+        out[i] = byte_of(pair(digits));
     }
 }

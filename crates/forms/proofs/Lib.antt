@@ -1,6 +1,4 @@
 -- Laws of the tables, and of the forms that they hold.
-pub mod KindOf
-pub mod Tables
 pub mod EachForm
 pub mod Storing
 pub mod Sizes

@@ -4,7 +4,7 @@ use mathlib.Core.Bool.{Bool, true, false}
 use mathlib.Core.List.{List, [], ◌∷◌}
 use mathlib.Core.Path.{◌≡◌, refl, sym, ap, ◌∙◌}
 use native.Mathlib.Omega.{arith}
-use lib.ListN.{length, get_or, drop, length-drop}
+use lib.ListN.{length, drop, length-drop}
 use Rattle.lists.proofs.Choice.{true_false}
 use Rattle.model.specs.Lines.{FieldKind, number, name, right, hex, Form, forms, at, stores, length_of, calls, form_at}
 use Rattle.model.specs.Places.{EachForm, end, and}
@@ -26,7 +26,7 @@ pub data Storing (f : Form) : Type 0 where
 
 pub each : EachForm Storing forms
 unfolding forms stores length_of no_data
-each = search (end, and, never, last, refl) depth 40
+each = search (end, and, never, last) depth 40
 
 pub storing_at : (p : ℕ) → p < calls → Storing (form_at p)
 storing_at p h = each_at forms each p h
@@ -53,11 +53,6 @@ last_data (suc (suc (suc zero))) rest d = cc
 last_data (suc (suc (suc (suc k)))) rest d = absurd (omega (arith, length-drop {A = FieldKind} k [], ap length d))
 
 module _ (f : Form) (k : ℕ) where
-  pub with_data : Storing f → (rest : List FieldKind) → drop k f.kinds ≡ hex ∷ rest → (rest ≡ []) × ((v : List ℕ) → stores (f.make v) ≡ true)
-  with_data (never n m) rest d = absurd (never_data f.kinds k rest n d)
-  with_data (last e y l) rest d = (last_data k rest (ap (drop k) (sym e) ∙ d), y)
-
-  pub without_data : Storing f → drop k f.kinds ≡ [] → ((j : ℕ) → j < k → get_or f.kinds j number ≡ hex → ⊥) → (v : List ℕ) → stores (f.make v) ≡ false
-  without_data (never n m) d s v = m v
-  without_data (last e y l) d s v =
-      absurd (s 3 (omega (arith, length-drop k f.kinds, ap length d, ap length e)) (ap (λ ks. get_or ks 3 number) e))
+  pub data_end : Storing f → (rest : List FieldKind) → drop k f.kinds ≡ hex ∷ rest → rest ≡ []
+  data_end (never n m) rest d = absurd (never_data f.kinds k rest n d)
+  data_end (last e y l) rest d = last_data k rest (ap (drop k) (sym e) ∙ d)

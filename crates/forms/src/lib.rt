@@ -2,9 +2,12 @@
 // form is its place in the model's `forms`.
 #![tactic(auto)]
 
-ghost use Rattle.std.specs.Prelude.{◌≡◌};
+ghost use Rattle.std.specs.Prelude.{◌≡◌, ◌≤◌, length, map};
+ghost use Rattle.fields.specs.Fields.{kind_of};
 ghost use Rattle.model.specs.Lines.{form_at};
-ghost use Rattle.forms.specs.Tables.{shape_of, call_names};
+ghost use Rattle.forms.specs.Tables.{call_names};
+
+pub use fields::Kind;
 
 // How many names a line may begin with.
 pub const CALLS: usize = 16;
@@ -16,6 +19,7 @@ pub const MOST_BYTES: usize = 583;
 pub const MOST_FIELDS: usize = 6;
 
 // The calls' names, each as one number: a 1 and its letters, so that the number tells how many there are.
+#[tactic(auto, unfolding(model::specs::Lines::forms, model::specs::Lines::packed, crate::specs::Tables::call_names))]
 pub fn call_names() -> [u64; CALLS]
     ensures { result ≡ call_names }
 {
@@ -39,27 +43,42 @@ pub fn call_names() -> [u64; CALLS]
     ]
 }
 
-// The kinds of a call's fields, three bits a field, the first lowest: 1 a number, 2 a name, 3 a right, 4 data, which come last.
-pub fn call_shape(place: usize) -> u64
-    ensures { result ≡ shape_of (form_at place).kinds }
+// The kinds of a call's fields, after its name.
+#[tactic(auto, unfolding(model::specs::Lines::forms))]
+pub fn call_kinds(place: usize) -> &'static [Kind]
+    ensures kinds { map kind_of result.now ≡ (form_at place).kinds }
+    ensures few { length result.now ≤ MOST_FIELDS }
 {
     match place {
-        0 => 0o1,
-        1 => 0o111111,
-        2 => 0o121,
-        3 => 0o11,
-        4 => 0o3111,
-        5 => 0o11,
-        6 => 0o211,
-        7 => 0o311,
-        8 => 0o11,
-        9 => 0o111,
-        10 => 0o11,
-        11 => 0o1111,
-        12 => 0o4111,
-        13 => 0o1,
-        14 => 0o11,
-        15 => 0o11111,
-        _ => 0,
+        0 => &[Kind::Number],
+        1 => &[
+            Kind::Number,
+            Kind::Number,
+            Kind::Number,
+            Kind::Number,
+            Kind::Number,
+            Kind::Number,
+        ],
+        2 => &[Kind::Number, Kind::Name, Kind::Number],
+        3 => &[Kind::Number, Kind::Number],
+        4 => &[Kind::Number, Kind::Number, Kind::Number, Kind::Right],
+        5 => &[Kind::Number, Kind::Number],
+        6 => &[Kind::Number, Kind::Number, Kind::Name],
+        7 => &[Kind::Number, Kind::Number, Kind::Right],
+        8 => &[Kind::Number, Kind::Number],
+        9 => &[Kind::Number, Kind::Number, Kind::Number],
+        10 => &[Kind::Number, Kind::Number],
+        11 => &[Kind::Number, Kind::Number, Kind::Number, Kind::Number],
+        12 => &[Kind::Number, Kind::Number, Kind::Number, Kind::Data],
+        13 => &[Kind::Number],
+        14 => &[Kind::Number, Kind::Number],
+        15 => &[
+            Kind::Number,
+            Kind::Number,
+            Kind::Number,
+            Kind::Number,
+            Kind::Number,
+        ],
+        _ => &[],
     }
 }

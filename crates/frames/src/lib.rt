@@ -21,22 +21,19 @@ pub fn clear(scratch: &mut [u8], first: usize, pages: usize)
 }
 
 // How many frames of a space are freed where a guest is reset: all of a data space of the guest, of others none.
+#[tactic(auto, unfolding(lists::specs::Choice::choose))]
 pub fn freed_pages(x: Space, guest: u32) -> u16
     ensures { result ≡ choose (is_data guest x) x.pages 0 }
 {
-    if slots::is_data(x, guest) {
-        return x.pages;
-    }
-    0
+    if slots::is_data(x, guest) { x.pages } else { 0 }
 }
 
 // The frames of a guest's data spaces become zeros, run by run.
-pub fn clear_data(scratch: &mut [u8], spaces: [Space; 32], guest: u32)
-    requires { RunsInside (length scratch.old / 4096) spaces }
-    ensures { scratch.new ≡ clear_frames (freed spaces spaces (slots_of (is_data guest) spaces)) scratch.old }
+pub fn clear_data(scratch: &mut [u8], spaces: &[Space; 32], guest: u32)
+    requires { RunsInside (length scratch.old / 4096) spaces.now }
+    ensures { scratch.new ≡ clear_frames (freed spaces.now spaces.now (slots_of (is_data guest) spaces.now)) scratch.old }
 {
-    for u in 0..32usize {
-        let x = spaces[u];
-        clear(scratch, x.first as usize, freed_pages(x, guest) as usize);
+    for x in spaces.iter() {
+        clear(scratch, x.first as usize, freed_pages(*x, guest) as usize);
     }
 }

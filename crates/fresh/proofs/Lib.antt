@@ -1,1 +1,1 @@
-pub mod Range
+pub mod Defaults

@@ -12,7 +12,6 @@ use borrow.Author.Tests.{eq-eqb, ne_eqb, leb-true}
 use Rattle.lists.proofs.Choice.{true_false, yes!, no!, choose_elim}
 use Rattle.model.specs.declared.Right.{Right}
 use Rattle.model.specs.declared.Right.TheVariants.{Read, Write}
-use Rattle.model.specs.declared.Translation.TheVariants.{Reached}
 use Rattle.model.specs.Calls.{target, writes}
 use Rattle.model.specs.Classes.{Moves, no_bytes, from_space, to_space, class_of, stores_bytes}
 use Rattle.model.specs.Decision.{Effect, fetch, store}
@@ -21,6 +20,7 @@ use Rattle.model.specs.Searches.{enrolled}
 use Rattle.model.specs.Step.{Machine, Ready, Issue, decision, step, after_run}
 use Rattle.model.specs.Tables.{space_at}
 use Rattle.model.specs.Tokens.{malformed}
+use Rattle.model.specs.Translation.{reaches}
 use Rattle.model.proofs.Moving.{Transferred, MovedAs, performed_moved}
 use Rattle.model.proofs.Refusals.{done_granted}
 use Rattle.isolation.specs.Agrees.{given}
@@ -40,7 +40,7 @@ record Used (m : Machine) (i : Issue) (v : Moves) (r : ℕ) : Type 0 where
   small : r < 16
   slot : ℕ
   right : Right
-  reached : target m.tables i.call.caller r ≡ Reached slot right
+  reached : target m.tables i.call.caller r ≡ reaches slot right
   reaches : Reaches m i (space_at m.tables.spaces slot).id
   write : stores_bytes v ≡ true → right ≡ Write
 

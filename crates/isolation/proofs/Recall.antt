@@ -5,6 +5,7 @@ use mathlib.Core.Bool.{true, false, not}
 use mathlib.Core.List.{List, []}
 use mathlib.Core.Logic.{◌⊎◌, inl, inr}
 use mathlib.Core.Path.{◌≡◌, refl, sym, ap, ◌∙◌}
+use Rattle.std.specs.Prelude.{Err}
 use native.Mathlib.Decide.{ℕ_discrete, dec_le}
 use native.Mathlib.Omega.{arith}
 use lib.Dec.{eqb}
@@ -16,7 +17,6 @@ use Rattle.model.specs.declared.Entry.{Entry}
 use Rattle.model.specs.declared.Standing.{Standing}
 use Rattle.model.specs.declared.Standing.TheVariants.{Unused, Valid, Revoked}
 use Rattle.model.specs.declared.State.{State}
-use Rattle.model.specs.declared.Translation.TheVariants.{Refused}
 use Rattle.model.specs.Answers.{number}
 use Rattle.model.specs.Fresh.{empty_tables}
 use Rattle.model.specs.Names.{base_name}
@@ -59,7 +59,7 @@ module _ (s : State) (ok : Sound s) (g : ℕ) (on : enrolled s.guests g ≡ true
   through_gives Revoked = refl
 
   entry_says : (t : ℕ) → IsEntry (entry_number t) → entry_gives s.spaces (entry_at s.entries g (entry_number t)) (upper_half t)
-      ≡ given s (choose (not (assigned s.entries g list t)) (Refused AlenTranslation) (through_standing (entry_at s.entries g (entry_number t)).standing))
+      ≡ given s (choose (not (assigned s.entries g list t)) (Err AlenTranslation) (through_standing (entry_at s.entries g (entry_number t)).standing))
   unfolding given number choose
   entry_says t i = go (true_or_false (assigned s.entries g list t))
     where
@@ -67,7 +67,7 @@ module _ (s : State) (ok : Sound s) (g : ℕ) (on : enrolled s.guests g ≡ true
       e = entry_at s.entries g (entry_number t)
 
       go : (assigned s.entries g list t ≡ true) ⊎ (assigned s.entries g list t ≡ false)
-          → entry_gives s.spaces e (upper_half t) ≡ given s (choose (not (assigned s.entries g list t)) (Refused AlenTranslation) (through_standing e.standing))
+          → entry_gives s.spaces e (upper_half t) ≡ given s (choose (not (assigned s.entries g list t)) (Err AlenTranslation) (through_standing e.standing))
       go (inl a) = gives_standing s.spaces e _ (assigned_sequence s.entries g list t a) ∙ sym (through_gives e.standing) ∙ rw a refl
       go (inr n) = not_assigned t i n ∙ rw n refl
 

@@ -1,10 +1,8 @@
 -- The executable form says what the tables say: after every list from a fresh state, for every enrolled guest and every
 -- token, the record's answer is the tables' translation, its space named by its identification.
-use Rattle.std.specs.Prelude.{ℕ, ◌<◌, true, List, [], ◌≡◌, eqb}
+use Rattle.std.specs.Prelude.{ℕ, ◌<◌, true, List, [], ◌≡◌, eqb, Ok, Err}
 use Rattle.lists.specs.Choice.{choose}
 use Rattle.model.specs.declared.State.{State}
-use Rattle.model.specs.declared.Translation.{Translation}
-use Rattle.model.specs.declared.Translation.TheVariants.{Reached, Refused}
 use Rattle.model.specs.Answers.{number}
 use Rattle.model.specs.Fresh.{empty_tables}
 use Rattle.model.specs.Searches.{enrolled}
@@ -12,15 +10,15 @@ use Rattle.model.specs.Sound.{Live}
 use Rattle.model.specs.Step.{Ready, Issue, after_run}
 use Rattle.model.specs.Tables.{space_at, cpu_at, cpu_place, grant_at}
 use Rattle.model.specs.Tokens.{token_used}
-use Rattle.model.specs.Translation.{translate}
+use Rattle.model.specs.Translation.{Translation, translate}
 use Rattle.model.specs.declared.Caller.{Caller}
 use Rattle.isolation.specs.History.{Event, recorded}
 use Rattle.isolation.specs.Recall.{Given, space, misformed, unassigned, withdrawn, owner_in, grant_in, recall, used_in}
 
 -- what the tables' translation gives, the space named by its identification; translation refuses with 14, 15 or 16 only
 unfoldable pub given : State → Translation → Given
-given s (Reached u r) = space (space_at s.spaces u).id r
-given s (Refused a) = choose (eqb (number a) 14) misformed (choose (eqb (number a) 15) unassigned withdrawn)
+given s (Ok x) = space (space_at s.spaces x.slot).id x.right
+given s (Err a) = choose (eqb (number a) 14) misformed (choose (eqb (number a) 15) unassigned withdrawn)
 
 pub record Agreeing (s : State) (h : List Event) : Type 0 where
   pub owners : (u : ℕ) → Live s.spaces u → owner_in h (space_at s.spaces u).id ≡ (space_at s.spaces u).owner

@@ -1,28 +1,48 @@
 -- The letters of a word begin behind the first byte that is not 0. Assumes nothing.
-use Prim.Native.Nat.{ℕ, ◌+◌, ◌≤◌, ◌<◌}
-use mathlib.Core.List.{List}
+use Prim.Native.Nat.{ℕ, suc, ◌+◌, ◌-◌, ◌≤◌}
+use mathlib.Core.Bool.{Bool, true, false, cond, not}
+use mathlib.Core.List.{List, [], ◌∷◌}
 use mathlib.Core.Path.{◌≡◌, refl, sym, ap, ◌∙◌}
-use lib.ListN.{length, get_or, drop, drop_of_length-le}
-use borrow.Author.Tests.{eq-eqb, ne_eqb}
-use Rattle.lists.proofs.Choice.{yes!, no! }
-use Rattle.lists.proofs.Parts.{drop_next}
+use native.Mathlib.Omega.{arith}
+use lib.Dec.{eqb}
+use lib.ListN.{length, drop, take, length-drop, drop_of_length-le}
+use lib.Seq.{take_all}
+use Rattle.std.specs.List.{position, position_or_len}
+use Rattle.std.proofs.Common.{Some, None, nat_lt}
+use Rattle.std.proofs.lemmas.Bool.{ltb-false}
+use Rattle.lists.specs.Choice.{choose}
+use Rattle.model.specs.Names.{name_bytes}
 use Rattle.letters.specs.Words.{after_first}
 
--- the first i bytes are 0
-pub record Zeros (l : List ℕ) (i : ℕ) : Type 0 where
-  pub same : after_first l ≡ after_first (drop i l)
+abbrev pub is_set : ℕ → Bool
+is_set b = not (eqb b 0)
 
-pub zeros_start : (l : List ℕ) → Zeros l 0
-zeros_start l = record { same = refl }
+behind : (l : List ℕ) → drop (position_or_len is_set l + 1) l ≡ after_first l
+unfolding after_first choose
+behind [] = refl
+behind (b ∷ l) = go (eqb b 0) (behind l)
+  where
+    go : (z : Bool) → drop (position_or_len is_set l + 1) l ≡ after_first l
+        → drop (cond (not (not z)) (1 + position_or_len is_set l) 0 + 1) (b ∷ l) ≡ choose z (after_first l) l
+    go true e = let q : 1 + position_or_len is_set l + 1 ≡ suc (position_or_len is_set l + 1) = omega arith in rw q e
+    go false e = refl
 
-pub zeros_more : (l : List ℕ) (i : ℕ) → Zeros l i → i < length l → get_or l i 0 ≡ 0 → Zeros l (i + 1)
-unfolding after_first
-zeros_more l i z h e = record { same = z.same ∙ ap after_first (drop_next l i 0 h) ∙ yes! _ _ (eq-eqb (get_or l i 0) 0 e) }
+pub letters_behind : (l : List ℕ) (i : ℕ) → position is_set l ≡ Some i → take (length l - (i + 1)) (drop (i + 1) l) ≡ after_first l
+letters_behind l i e = go (nat_lt (position_or_len is_set l) (length l)) e
+  where
+    go : (t : Bool) → cond t (Some (position_or_len is_set l)) None ≡ Some i → take (length l - (i + 1)) (drop (i + 1) l) ≡ after_first l
+    go true e =
+        let q : position_or_len is_set l ≡ i = cc in
+        take_all (length l - (i + 1)) (drop (i + 1) l) (omega (arith, length-drop (i + 1) l)) ∙ ap (λ k. drop (k + 1) l) (sym q) ∙ behind l
+    go false e = absurd (cc)
 
-pub zeros_found : (l : List ℕ) (i : ℕ) → Zeros l i → i < length l → (get_or l i 0 ≡ 0 → ⊥) → drop (i + 1) l ≡ after_first l
-unfolding after_first
-zeros_found l i z h n = sym (z.same ∙ ap after_first (drop_next l i 0 h) ∙ no! _ _ (ne_eqb (get_or l i 0) 0 n))
+pub no_letters : (l : List ℕ) → position is_set l ≡ None → [] ≡ after_first l
+no_letters l e = go (nat_lt (position_or_len is_set l) (length l)) refl e
+  where
+    go : (t : Bool) → nat_lt (position_or_len is_set l) (length l) ≡ t → cond t (Some (position_or_len is_set l)) None ≡ None → [] ≡ after_first l
+    go true h e = absurd (cc)
+    go false h e = sym (drop_of_length-le l {i = position_or_len is_set l + 1} (omega (arith, ltb-false _ _ h))) ∙ behind l
 
-pub zeros_all : (l : List ℕ) (i : ℕ) → Zeros l i → length l ≤ i → drop i l ≡ after_first l
-unfolding after_first
-zeros_all l i z h = let e = drop_of_length-le l {i = i} h in e ∙ sym (z.same ∙ ap after_first e)
+pub letters_short : {b r : List ℕ} (n : ℕ) → b ≡ name_bytes n → r ≡ after_first b → length r ≤ 8
+unfolding name_bytes
+letters_short {b} n e f = omega (arith, length-drop (position_or_len is_set b + 1) b, ap length (behind b), ap length e, ap length f)

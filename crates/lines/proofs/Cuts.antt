@@ -1,18 +1,19 @@
 -- The fields of a line, where the code cuts it. Assumes nothing.
-use Prim.Native.Nat.{ℕ, zero, suc, ◌+◌, ◌≤◌, ◌<◌}
+use Prim.Native.Nat.{ℕ, suc, ◌+◌, ◌-◌, ◌≤◌, ◌<◌}
 use mathlib.Core.Bool.{Bool, true, false}
-use mathlib.Core.List.{List, [], ◌∷◌}
+use mathlib.Core.List.{List, [], ◌∷◌, ◌++◌}
 use mathlib.Core.Path.{◌≡◌, refl, sym, ap, ◌∙◌}
 use native.Mathlib.Omega.{arith}
 use lib.Dec.{eqb}
-use lib.ListN.{length, drop, length-drop}
-use lib.Seq.{drop-drop, drop-length}
+use lib.ListN.{length, drop, length-drop, length-append}
+use lib.Seq.{drop-drop, drop-length, drop-append_seam}
+use Rattle.lists.specs.Choice.{choose}
 use Rattle.lists.proofs.Choice.{yes!, no!, both_left, both_right, both_not}
 use Rattle.lists.proofs.Parts.{drop_next}
 use Rattle.model.specs.Lines.{fields, Spelt, is, bad, spelt, hex_digit, hex_digits, hex_field, hex, field_of, values, unread, and_then, read_fields}
 use Rattle.fields.specs.Fields.{first_field, field_from, end_from}
 use Rattle.fields.proofs.Spelling.{tab_no_digit}
-use Rattle.lines.specs.Fields.{following, Last}
+use Rattle.lines.specs.Fields.{following}
 
 -- the first field, and those that follow it
 fields_first : (d : List ℕ) → fields d ≡ first_field d ∷ following (drop (length (first_field d)) d)
@@ -96,17 +97,37 @@ last_of [] = []
 last_of (f ∷ []) = f
 last_of (f ∷ g ∷ fs) = last_of (g ∷ fs)
 
-nothing_left : (k : ℕ) (d : List ℕ) → drop k [] ≡ d ∷ [] → ⊥
-nothing_left zero d e = let z : ◌≡◌ {A = ℕ} 0 1 = cc in omega arith
-nothing_left (suc k) d e = let z : ◌≡◌ {A = ℕ} 0 1 = cc in omega arith
+-- it ends the line
+record Ends (l : List ℕ) : Type 0 where
+  front : List ℕ
+  is : l ≡ front ++ last_of (fields l)
 
-dropped : (k : ℕ) (fs : List (List ℕ)) (d : List ℕ) → drop k fs ≡ d ∷ [] → last_of fs ≡ d
-unfolding last_of
-dropped zero fs d e = ap last_of e
-dropped (suc k) [] d e = absurd (nothing_left (suc k) d e)
-dropped (suc k) (f ∷ []) d e = absurd (nothing_left k d e)
-dropped (suc k) (f ∷ g ∷ fs) d e = dropped k (g ∷ fs) d e
+alone : (l f : List ℕ) → fields l ≡ f ∷ [] → f ≡ l
+alone l f e =
+    let p : f ∷ [] ≡ first_field l ∷ following (drop (length (first_field l)) l) = sym e ∙ fields_first l in
+    let q : f ≡ first_field l = cc in
+    q ∙ first_whole l cc
 
-pub last_of_five : (fs : List (List ℕ)) (v w x y z d : List ℕ) → fs ≡ v ∷ w ∷ x ∷ y ∷ z ∷ [] → Last fs d → d ≡ z
+ends : (l : List ℕ) → Ends l
+unfolding fields last_of choose
+ends [] = record { front = []; is = refl }
+ends (b ∷ l) = go (eqb b 9) refl (ends l) (fields l) refl
+  where
+    on : (f : List ℕ) (fs : List (List ℕ)) → fields (b ∷ l) ≡ f ∷ fs → (front : List ℕ) → b ∷ l ≡ front ++ last_of (f ∷ fs) → Ends (b ∷ l)
+    on f fs e front q = record { front = front; is = q ∙ ap (λ g. front ++ last_of g) (sym e) }
+
+    go : (t : Bool) → eqb b 9 ≡ t → Ends l → (fs : List (List ℕ)) → fields l ≡ fs → Ends (b ∷ l)
+    go t y x [] e = absurd (fields_none l e)
+    go true y x (f ∷ fs) e = on [] (f ∷ fs) (rw (y, e)) (b ∷ x.front) (ap (λ r. b ∷ r) (x.is ∙ ap (λ g. x.front ++ last_of g) e))
+    go false n x (f ∷ []) e = on (b ∷ f) [] (rw (n, e)) [] (ap (λ r. b ∷ r) (sym (alone l f e)))
+    go false n x (f ∷ g ∷ fs) e = on (b ∷ f) (g ∷ fs) (rw (n, e)) (b ∷ x.front) (ap (λ r. b ∷ r) (x.is ∙ ap (λ g. x.front ++ last_of g) e))
+
+-- so a last field is found by its length
+pub last_found : (l v w x y z : List ℕ) → fields l ≡ v ∷ w ∷ x ∷ y ∷ z ∷ [] → (length z ≤ length l) × (drop (length l - length z) l ≡ z)
 unfolding last_of
-last_of_five fs v w x y z d e t = sym (dropped t.place fs d t.is) ∙ ap last_of e
+last_found l v w x y z e =
+    let t = ends l in
+    let p : l ≡ t.front ++ z = t.is ∙ ap (λ g. t.front ++ last_of g) e in
+    let n : length l ≡ length t.front + length z = ap length p ∙ length-append t.front z in
+    let m : length l - length z ≡ length t.front = omega arith in
+    (omega arith, ap (λ i. drop i l) m ∙ ap (drop (length t.front)) p ∙ drop-append_seam t.front z)

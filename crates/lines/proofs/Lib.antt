@@ -1,5 +1,4 @@
 -- Laws of the reader.
-pub mod Tables
 pub mod Values
 pub mod Cuts
 pub mod Taken

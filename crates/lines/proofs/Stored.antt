@@ -1,13 +1,13 @@
 -- The data of a line that asks to store. Assumes nothing.
-use Prim.Native.Nat.{ℕ, ◌-◌, ◌/◌, ◌≤◌}
+use Prim.Native.Nat.{ℕ, ◌-◌, ◌*◌, ◌/◌, ◌%◌, ◌≤◌}
 use mathlib.Core.Bool.{Bool, true, false}
 use mathlib.Core.List.{List, [], ◌∷◌}
 use mathlib.Core.Path.{◌≡◌, refl, sym, ap, ◌∙◌}
 use native.Mathlib.Omega.{arith}
 use lib.Dec.{leb}
 use lib.ListN.{length, get_or, take, drop, length-drop}
-use lib.Seq.{take_all}
-use borrow.Author.Tests.{leb-true}
+use lib.Seq.{take_all, drop-length}
+use borrow.Author.Tests.{leb-true, eqb-true}
 use Rattle.lists.specs.Bytes.{over}
 use Rattle.lists.specs.Choice.{choose}
 use Rattle.lists.proofs.Choice.{yes!, no!, true_false, both_left, both_right}
@@ -15,8 +15,7 @@ use Rattle.model.specs.declared.Request.{Request}
 use Rattle.model.specs.declared.Request.TheVariants.{NotRead}
 use Rattle.model.specs.Lines.{fields, is, hex_digits, hex_field, hex_bytes, number, hex, field_of, Values, values, unread, read_fields, Form, forms, at, same_bytes, make_by, read_by, read_all, read_line, stores, length_of, data_of}
 use Rattle.model.specs.Places.{EachForm, and}
-use Rattle.lines.specs.Fields.{DataAt}
-use Rattle.lines.proofs.Cuts.{last_of_five}
+use Rattle.lines.proofs.Cuts.{last_found}
 use Rattle.forms.proofs.Storing.{Storing, never, last, each}
 use Rattle.fields.proofs.Decoding.{bytes_length}
 use Rattle.fields.proofs.Spelling.{spelt_is}
@@ -88,6 +87,14 @@ hex_length f n e =
     let l = leb-true (length f) 514 (both_right _ _ (both_left _ _ s.0)) in
     (bytes_length f ∙ s.1, omega (arith, s.1))
 
+-- two digits a byte
+hex_long : (f : List ℕ) (n : ℕ) → hex_field f ≡ is n → (length f ≡ 2 * n) × (hex_digits f ≡ true)
+unfolding hex_field
+hex_long f n e =
+    let s = spelt_is _ (length f / 2) n e in
+    let z = eqb-true (length f % 2) 0 (both_left _ _ (both_left _ _ s.0)) in
+    (omega (arith, s.1), both_right _ _ s.0)
+
 data_stored : (l : List ℕ) → stores (read_line l) ≡ true → data_of l ≡ hex_bytes (get_or (fields l) 4 [])
 unfolding data_of
 data_stored l y = yes! _ _ y
@@ -110,36 +117,55 @@ pub data_none : (l : List ℕ) → stores (read_line l) ≡ false → data_of l 
 unfolding data_of
 data_none l n = no! _ _ n
 
--- as the code finds them
-module _ (l : List ℕ) (r : Request) (start : ℕ) (e : r ≡ read_line l) (d : DataAt (fields l) l r start) where
-  pub none_stored : (o : List ℕ) → start ≡ 0 → o ≡ over o 0 (data_of l)
-  unfolding over
-  none_stored o z = sym (ap (over o 0) (data_none l (ap stores (sym e) ∙ d.none z)))
+-- as the code finds them: the last of the line, two digits for each of the n bytes that its request says, and none where it doesn't
+-- store
+module _ (l : List ℕ) (r : Request) (n : ℕ) (e : r ≡ read_line l) (q : n ≡ choose (stores r) (length_of r) 0) where
+  abbrev hexes : List ℕ
+  hexes = take (length l - (length l - 2 * n)) (drop (length l - 2 * n) l)
 
-  module _ (n : start ≡ 0 → ⊥) where
-    abbrev hexes : List ℕ
-    hexes = take (length l - start) (drop start l)
+  whole : hexes ≡ drop (length l - 2 * n) l
+  whole = take_all _ (drop (length l - 2 * n) l) (omega (arith, length-drop (length l - 2 * n) l))
 
-    storing : stores (read_line l) ≡ true
-    storing = ap stores (sym e) ∙ (d.some n).0
+  record Found : Type 0 where
+    fits : 2 * n ≤ length l
+    digits : hex_digits hexes ≡ true
+    room : length hexes / 2 ≤ 257
+    bytes : hex_bytes hexes ≡ data_of l
 
-    rest_is : (hex_field hexes ≡ is (length_of (read_line l))) × (hex_bytes hexes ≡ data_of l)
-    rest_is =
-        let f = five_fields l storing in
-        let s = f.store in
-        let g : fields l ≡ f.word ∷ s.caller ∷ s.register ∷ s.address ∷ s.hexes ∷ [] = f.are ∙ ap (λ x. f.word ∷ x) s.are in
-        let h : hexes ≡ s.hexes = take_all (length l - start) (drop start l) (omega (arith, length-drop start l)) ∙ last_of_five (fields l) _ _ _ _ _ (drop start l) g (d.some n).1 in
-        (ap hex_field h ∙ s.count, ap hex_bytes (h ∙ sym (ap (λ x. get_or x 4 []) g)) ∙ sym (data_stored l storing))
+  found : Found
+  unfolding hex_digits hex_bytes
+  found = go (stores r) refl
+    where
+      go : (b : Bool) → stores r ≡ b → Found
+      go false y =
+          let z : n ≡ 0 = q ∙ no! _ _ y in
+          let m : length l - 2 * n ≡ length l = omega arith in
+          let d : hexes ≡ [] = whole ∙ ap (λ i. drop i l) m ∙ drop-length l in
+          record { fits = omega arith; digits = rw d; room = rw d (omega arith); bytes = rw (d, data_none l (ap stores (sym e) ∙ y)) }
+      go true y =
+          let storing = ap stores (sym e) ∙ y in
+          let f = five_fields l storing in
+          let s = f.store in
+          let g : fields l ≡ f.word ∷ s.caller ∷ s.register ∷ s.address ∷ s.hexes ∷ [] = f.are ∙ ap (λ x. f.word ∷ x) s.are in
+          let m : n ≡ length_of (read_line l) = q ∙ yes! _ _ y ∙ ap length_of e in
+          let h = hex_long s.hexes n (s.count ∙ ap is (sym m)) in
+          let t = last_found l _ _ _ _ _ g in
+          let d : hexes ≡ s.hexes = whole ∙ ap (λ i. drop (length l - i) l) (sym h.0) ∙ t.1 in
+          record {
+            fits = omega (arith, h.0, t.0);
+            digits = rw d h.1;
+            room = rw d (omega (arith, h.0, m, data_most l storing));
+            bytes = rw d (ap hex_bytes (sym (ap (λ x. get_or x 4 []) g)) ∙ sym (data_stored l storing));
+          }
 
-    rest_good : (hex_digits hexes ≡ true) × (length hexes / 2 ≡ length_of (read_line l))
-    unfolding hex_field
-    rest_good = let s = spelt_is _ (length hexes / 2) (length_of (read_line l)) rest_is.0 in (both_right _ _ s.0, s.1)
+  pub data_fits : 2 * n ≤ length l
+  data_fits = found.fits
 
-    pub data_digits : hex_digits hexes ≡ true
-    data_digits = rest_good.0
+  pub data_digits : hex_digits hexes ≡ true
+  data_digits = found.digits
 
-    pub data_room : (m : ℕ) → m ≡ 257 → length hexes / 2 ≤ m
-    data_room m h = omega (arith, rest_good.1, data_most l storing)
+  pub data_room : (m : ℕ) → m ≡ 257 → length hexes / 2 ≤ m
+  data_room m h = rw h found.room
 
-    pub data_is : (o t : List ℕ) → t ≡ over o 0 (hex_bytes hexes) → t ≡ over o 0 (data_of l)
-    data_is o t e = e ∙ ap (over o 0) rest_is.1
+  pub data_is : (o t : List ℕ) → t ≡ over o 0 (hex_bytes hexes) → t ≡ over o 0 (data_of l)
+  data_is o t e = e ∙ ap (over o 0) found.bytes

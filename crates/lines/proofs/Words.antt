@@ -9,18 +9,22 @@ use native.Mathlib.Numerals.{add-one}
 use native.Mathlib.Omega.{arith}
 use lib.Dec.{eqb, leb, ltb}
 use lib.ListN.{length, get_or}
-use borrow.Author.Tests.{eq-eqb, eqb-true, eqb-false, le-leb, leb-true, ltb-true}
+use borrow.Author.Tests.{eq-eqb, eqb-true, eqb-false, le-leb, leb-true, ltb-true, ltb-false}
+use Rattle.std.proofs.Common.{cond, Some, None, position}
+use Rattle.std.specs.List.{position_or_len}
+use Rattle.std.proofs.lemmas.List.Quantifiers.{position-Some}
+use Rattle.std.proofs.lemmas.List.Sums.{fails_before_first}
+use Rattle.std.proofs.lemmas.Option.{none-some}
 use Rattle.lists.specs.Choice.{both}
 use Rattle.lists.specs.Places.{every, all_from}
 use Rattle.lists.proofs.Choice.{yes!, no!, choose_elim, both_left, both_right, both_intro, not_so, true_false}
-use Rattle.lists.proofs.Places.{every_at, lowest_holds, lowest_least}
+use Rattle.lists.proofs.Places.{every_at}
 use Rattle.model.specs.declared.Request.TheVariants.{NotRead}
 use Rattle.model.specs.Lines.{is, bad, spelt, packed, Form, forms, same_bytes, make_by, read_fields, read_by, calls, no_form, form_at}
 use Rattle.fields.specs.Fields.{first_field, word_field}
 use Rattle.fields.proofs.Readings.{Bytes}
 use Rattle.fields.proofs.Spelling.{spelt_is}
 use Rattle.forms.specs.Tables.{call_names}
-use Rattle.lines.specs.Made.{place_of}
 
 -- two names of bytes that are the same number are the same name
 tail_bytes : (b : ℕ) (f : List ℕ) → Bytes (b ∷ f) → Bytes f
@@ -162,16 +166,25 @@ unfolding read_by
 read_none [] w xs f = refl
 read_none (g ∷ fs) w xs f = no! _ _ (f 0 (omega arith)) ∙ read_none fs w xs (λ i l. f (suc i) (omega arith))
 
+-- a name that the table lacks
+position-None : (p : ℕ → Bool) (xs : List ℕ) (i d : ℕ) → position p xs ≡ None → i < length xs → p (get_or xs i d) ≡ false
+position-None p xs i d e h = go (ltb (position_or_len p xs) (length xs)) refl e
+  where
+    go : (b : Bool) → ltb (position_or_len p xs) (length xs) ≡ b → cond b (Some (position_or_len p xs)) None ≡ None → p (get_or xs i d) ≡ false
+    go true y q = absurd (none-some _ (sym q))
+    go false y q = fails_before_first p xs i d (omega (arith, ltb-false (position_or_len p xs) (length xs) y))
+
 -- which form a first field picks, from what was read of it
 pub read_unnamed : (w : List ℕ) (xs : List (List ℕ)) → word_field w ≡ bad → read_by forms w xs ≡ NotRead
 read_unnamed w xs e = read_none forms w xs (λ i h. word_bad i w h e)
 
-pub read_unknown : (w : List ℕ) (xs : List (List ℕ)) (v : ℕ) → word_field w ≡ is v → calls ≤ place_of v → read_by forms w xs ≡ NotRead
-read_unknown w xs v e h = read_none forms w xs (λ i l. word_no i w v l e (lowest_least (λ j. eqb (get_or call_names j 0) v) calls i (omega arith)))
+pub read_unknown : (w : List ℕ) (xs : List (List ℕ)) (v : ℕ) → word_field w ≡ is v → position (λ name. eqb name v) call_names ≡ None → read_by forms w xs ≡ NotRead
+unfolding call_names forms
+read_unknown w xs v e h = read_none forms w xs (λ i l. word_no i w v l e (position-None (λ name. eqb name v) call_names i 0 h (omega arith)))
 
-pub read_known : (w : List ℕ) (xs : List (List ℕ)) (v : ℕ) → Bytes w → word_field w ≡ is v → place_of v < calls
-    → read_by forms w xs ≡ make_by (form_at (place_of v)).make (read_fields (form_at (place_of v)).kinds xs)
-read_known w xs v k e h =
-    read_here forms (place_of v) w xs h
-    (λ i l. word_no i w v (omega arith) e (lowest_least (λ j. eqb (get_or call_names j 0) v) calls i l))
-    (word_yes (place_of v) w v h k e (lowest_holds (λ j. eqb (get_or call_names j 0) v) calls h))
+pub read_known : (w : List ℕ) (xs : List (List ℕ)) (v p : ℕ) → Bytes w → word_field w ≡ is v → position (λ name. eqb name v) call_names ≡ Some p
+    → (p < calls) × (read_by forms w xs ≡ make_by (form_at p).make (read_fields (form_at p).kinds xs))
+unfolding call_names forms
+read_known w xs v p k e h =
+    let f = position-Some (λ name. eqb name v) call_names p 0 h in
+    (f.0, read_here forms p w xs f.0 (λ i l. word_no i w v (omega arith) e (f.2 i l)) (word_yes p w v f.0 k e f.1))

@@ -1,15 +1,9 @@
--- Which call a name names, and the request that values make.
-use Rattle.std.specs.Prelude.{ℕ, ◌+◌, ◌%◌, List, [], ◌∷◌, eqb, get_or}
-use Rattle.lists.specs.Places.{lowest}
+-- The request that values make.
+use Rattle.std.specs.Prelude.{ℕ, ◌+◌, ◌%◌, List, [], ◌∷◌}
 use Rattle.model.specs.declared.Operation.{Operation}
 use Rattle.model.specs.declared.Request.{Request}
 use Rattle.model.specs.declared.Request.TheVariants.{Call}
-use Rattle.model.specs.Lines.{calls, form_at, FieldKind, number, name, right, hex, at}
-use Rattle.forms.specs.Tables.{call_names}
-
--- the number of the call that such a number names, or how many calls there are
-abbrev pub place_of : ℕ → ℕ
-place_of n = lowest (λ i. eqb (get_or call_names i 0) n) calls
+use Rattle.model.specs.Lines.{form_at, FieldKind, number, name, right, hex, at}
 
 -- The code holds every value in 64 bits, and takes the lower 32 of what is a number or a count.
 unfoldable pub low : FieldKind → ℕ → ℕ

@@ -2,153 +2,142 @@
 // of the model, and its data `data_of`.
 #![tactic(auto)]
 
-ghost use Rattle.std.specs.Prelude.{◌≤◌, ◌<◌, ◌≡◌, length, drop};
+ghost use Rattle.std.specs.Prelude.{◌≤◌, ◌<◌, ◌≡◌, ◌==◌, ◌%◌, length, drop, position};
+ghost use Rattle.std.specs.Option.{unwrap_or};
 ghost use Rattle.lists.specs.Bytes.{over};
-ghost use Rattle.model.specs.declared.Request.{Request};
-ghost use Rattle.model.specs.Lines.{fields, read_fields, make_by, right_of, read_line, data_of, calls, form_at};
-ghost use Rattle.lines.specs.Fields.{following, DataAt};
-ghost use Rattle.forms.specs.Tables.{shape_of};
-ghost use Rattle.lines.specs.Made.{place_of, asked_by, made_by};
+ghost use Rattle.lists.specs.Choice.{choose};
+ghost use Rattle.model.specs.declared.Request.TheVariants.{NotRead};
+ghost use Rattle.model.specs.Lines.{read_fields, make_by, right_of, read_line, data_of, calls, form_at, stores, length_of};
+ghost use Rattle.lines.specs.Fields.{following};
+ghost use Rattle.forms.specs.Tables.{call_names};
+ghost use Rattle.lines.specs.Made.{asked_by, made_by};
 
-use fields::Field;
 use model::{Call, Caller, Operation, Request, Right, Settings};
 
-// The number of the call that a name names, or how many there are. The compiler makes a few comparisons of the search.
-fn call_place(word: u64) -> usize
-    ensures { result ≡ place_of word }
+// The number of the call that a name names. The compiler makes a few comparisons of the search.
+fn call_place(word: u64) -> Option<usize>
+    ensures { result ≡ position (λ name. name == word) call_names }
 {
-    let names = forms::call_names();
-    let mut i: usize = 0;
-    while i < forms::CALLS {
-        if names[i] == word {
-            return i;
-        }
-        i += 1;
-    }
-    i
+    forms::call_names().iter().position(|name| *name == word)
 }
 
+// Any number but 0 is a write, as in `right_of` of the model.
+#[tactic(auto, unfolding(model::specs::Lines::right_of, lists::specs::Choice::choose))]
 fn right_of(v: u64) -> Right
     ensures { result ≡ right_of v }
 {
-    if v == 0 {
-        return Right::Read;
-    }
-    Right::Write
+    if v == 0 { Right::Read } else { Right::Write }
 }
 
 fn asked(guest: u32, operation: Operation, length: u32) -> Request
     ensures { result ≡ asked_by guest operation length }
 {
-    let caller = Caller { guest: guest };
-    let call = Call {
-        caller: caller,
-        operation: operation,
-    };
-    Request::Call {
-        call: call,
-        length: length,
-    }
+    let caller = Caller { guest };
+    let call = Call { caller, operation };
+    Request::Call { call, length }
 }
 
-// Only the lower 32 bits of a number are taken: a number that was read has no others. Names and rights are taken whole.
-fn make(place: usize, v: [u64; forms::MOST_FIELDS]) -> Request
-    ensures { result ≡ made_by place v }
+// Only the lower 32 bits of a number are taken: a number that was read has no others, so `try_from` would have a case that never
+// comes.
+fn low(value: u64) -> u32
+    ensures { result ≡ value % 4294967296 }
 {
-    let second = v[1];
-    let third = v[2];
-    let fourth = v[3];
-    let a = (v[0] % 4294967296) as u32;
-    let b = (second % 4294967296) as u32;
-    let c = (third % 4294967296) as u32;
-    let d = (fourth % 4294967296) as u32;
-    let e = (v[4] % 4294967296) as u32;
-    let f = (v[5] % 4294967296) as u32;
+    (value % 4294967296) as u32
+}
+
+// The request that the values of a call's fields make. Names and rights are taken whole. Calls go by their place in the model's
+// `forms`: an enum of them would be made of a place that a search gives, and turned into one to ask the tables.
+#[tactic(auto, unfolding(model::specs::Lines::forms, crate::specs::Made::made_by, crate::specs::Made::lowered, crate::specs::Made::low))]
+fn make(place: usize, values: &[u64; forms::MOST_FIELDS]) -> Request
+    ensures { result ≡ made_by place values.now }
+{
+    let [first, second, third, fourth, fifth, sixth] = *values;
+    let guest = low(first);
     match place {
-        0 => Request::Frames { frames: a },
+        0 => Request::Frames { frames: guest },
         1 => asked(
-            a,
+            guest,
             Operation::Enrol {
                 settings: Settings {
-                    pages: b,
-                    allowance: c,
-                    share: d,
-                    list: e,
-                    asf: f,
+                    pages: low(second),
+                    allowance: low(third),
+                    share: low(fourth),
+                    list: low(fifth),
+                    asf: low(sixth),
                 },
             },
             0,
         ),
         2 => asked(
-            a,
+            guest,
             Operation::Create {
                 name: second,
-                pages: c,
+                pages: low(third),
             },
             0,
         ),
-        3 => asked(a, Operation::Destroy { id: b }, 0),
+        3 => asked(guest, Operation::Destroy { id: low(second) }, 0),
         4 => asked(
-            a,
+            guest,
             Operation::Permit {
-                id: b,
-                guest: c,
+                id: low(second),
+                guest: low(third),
                 right: right_of(fourth),
             },
             0,
         ),
-        5 => asked(a, Operation::Isolate { id: b }, 0),
+        5 => asked(guest, Operation::Isolate { id: low(second) }, 0),
         6 => asked(
-            a,
+            guest,
             Operation::Query {
-                owner: b,
+                owner: low(second),
                 name: third,
             },
             0,
         ),
         7 => asked(
-            a,
+            guest,
             Operation::Add {
-                id: b,
+                id: low(second),
                 right: right_of(third),
             },
             0,
         ),
-        8 => asked(a, Operation::Remove { token: b }, 0),
+        8 => asked(guest, Operation::Remove { token: low(second) }, 0),
         9 => asked(
-            a,
+            guest,
             Operation::Load {
-                register: b,
-                value: c,
+                register: low(second),
+                value: low(third),
             },
             0,
         ),
-        10 => asked(a, Operation::Mode { mode: b }, 0),
+        10 => asked(guest, Operation::Mode { mode: low(second) }, 0),
         11 => asked(
-            a,
+            guest,
             Operation::Fetch {
-                register: b,
-                address: c,
+                register: low(second),
+                address: low(third),
             },
-            d,
+            low(fourth),
         ),
         12 => asked(
-            a,
+            guest,
             Operation::Store {
-                register: b,
-                address: c,
+                register: low(second),
+                address: low(third),
             },
-            d,
+            low(fourth),
         ),
-        13 => asked(a, Operation::Reset, 0),
-        14 => asked(a, Operation::Key { key: b }, 0),
+        13 => asked(guest, Operation::Reset, 0),
+        14 => asked(guest, Operation::Key { key: low(second) }, 0),
         15 => asked(
-            a,
+            guest,
             Operation::Block {
-                id: b,
-                address: c,
-                key: d,
-                mark: e,
+                id: low(second),
+                address: low(third),
+                key: low(fourth),
+                mark: low(fifth),
             },
             0,
         ),
@@ -156,89 +145,54 @@ fn make(place: usize, v: [u64; forms::MOST_FIELDS]) -> Request
     }
 }
 
-// A request, and where the data of a store start: 0 where it has none.
-#[derive(Clone, Copy)]
-struct Outcome {
-    request: Request,
-    data_at: usize,
-}
-
-fn not_read() -> Outcome
-    ensures { (result.request ≡ Request.NotRead) × (result.data_at ≡ 0) }
-{
-    Outcome {
-        request: Request::NotRead,
-        data_at: 0,
-    }
-}
-
-fn parsed(place: usize, values: [u64; forms::MOST_FIELDS], data_at: usize) -> Outcome
-    ensures { (result.request ≡ made_by place values) × (result.data_at ≡ data_at) }
-{
-    Outcome {
-        request: make(place, values),
-        data_at: data_at,
-    }
-}
-
 // The fields after the call's name, which ends at `first`. Each is read up to its tab; data run to the line's end.
-fn arguments(line: &[u8], place: usize, shape: u64, first: usize) -> Outcome
-    requires { (place < calls) × (shape ≡ shape_of (form_at place).kinds) × (first ≤ length line.now) }
-    ensures { (result.request ≡ make_by (form_at place).make (read_fields (form_at place).kinds (following (drop first line.now)))) × DataAt (following (drop first line.now)) line.now result.request result.data_at }
+fn arguments(line: &[u8], place: usize, first: usize) -> Option<Request>
+    requires { (place < calls) × (first ≤ length line.now) }
+    ensures { unwrap_or result NotRead ≡ make_by (form_at place).make (read_fields (form_at place).kinds (following (drop first line.now))) }
 {
     let mut values = [0u64; forms::MOST_FIELDS];
-    let mut kinds = shape;
     let mut end = first;
-    let mut k: usize = 0;
-    while kinds % 4 != 0 {
+    for (k, kind) in forms::call_kinds(place).iter().enumerate() {
         if line.len() <= end {
-            return not_read();
+            return None;
         }
-        let field = fields::read_field(kinds % 4, line, end + 1);
-        let Field::Is { value: v, end: e } = field else {
-            return not_read();
-        };
-        end = e;
-        values[k] = v;
-        kinds = kinds / 8;
-        k += 1;
+        let field = fields::read_field(*kind, line, end + 1)?;
+        values[k] = field.value;
+        end = field.end;
     }
-    if kinds == 0 {
-        if end < line.len() {
-            return not_read();
-        }
-        return parsed(place, values, 0);
+    if end < line.len() {
+        return None;
     }
-    if line.len() <= end {
-        return not_read();
-    }
-    let start = end + 1;
-    let Field::Is { value: n, .. } = fields::data_field(&line[start..]) else {
-        return not_read();
-    };
-    values[k] = n;
-    parsed(place, values, start)
+    Some(make(place, &values))
 }
 
-// What a line asks for.
-fn read(line: &[u8]) -> Outcome
-    ensures { (result.request ≡ read_line line.now) × DataAt (fields line.now) line.now result.request result.data_at }
+// What a line asks for, where it is read.
+fn read(line: &[u8]) -> Option<Request>
+    ensures { unwrap_or result NotRead ≡ read_line line.now }
 {
     if 600 < line.len() {
-        return not_read();
+        return None;
     }
-    let Field::Is {
-        value: word,
-        end: first,
-    } = fields::word(line)
-    else {
-        return not_read();
-    };
-    let place = call_place(word);
-    if forms::CALLS <= place {
-        return not_read();
+    let name = fields::word(line)?;
+    let place = call_place(name.value)?;
+    arguments(line, place, name.end)
+}
+
+// How many bytes of data stand at the end of a request's line.
+#[tactic(auto, unfolding(model::specs::Lines::stores, model::specs::Lines::length_of, model::specs::Classes::is_store, lists::specs::Choice::choose))]
+fn data_length(request: &Request) -> usize
+    ensures { result ≡ choose (stores request.now) (length_of request.now) 0 }
+{
+    match request {
+        Request::Call {
+            call: Call {
+                operation: Operation::Store { .. },
+                ..
+            },
+            length,
+        } => *length as usize,
+        _ => 0,
     }
-    arguments(line, place, forms::call_shape(place), first)
 }
 
 // One line, without its newline: what it asks for, and the data of a store over the first bytes of `bytes`.
@@ -246,11 +200,8 @@ pub fn read_line(line: &[u8], bytes: &mut [u8; 257]) -> Request
     ensures value { result ≡ read_line line.now }
     ensures bytes_after { bytes.new ≡ over bytes.old 0 (data_of line.now) }
 {
-    let outcome = read(line);
-    let start = outcome.data_at;
-    if start == 0 {
-        return outcome.request;
-    }
+    let request = read(line).unwrap_or(Request::NotRead);
+    let start = line.len() - 2 * data_length(&request);
     fields::hexes::decode(&line[start..], bytes);
-    outcome.request
+    request
 }

@@ -1,12 +1,12 @@
 -- The entries: the standings in one pass, those above the lists in another. Together they are the model's test. Assumes nothing.
-use Prim.Native.Nat.{ℕ, ◌+◌, ◌-◌, ◌*◌, ◌≤◌, ◌<◌}
-use mathlib.Core.Bool.{Bool, true}
+use Prim.Native.Nat.{ℕ, ◌+◌, ◌-◌, ◌≤◌, ◌<◌}
+use mathlib.Core.Bool.{Bool, true, false}
 use mathlib.Core.List.{List}
-use mathlib.Core.Path.{◌≡◌, sym, ap, ◌∙◌}
+use mathlib.Core.Path.{◌≡◌, refl, sym, ap, ◌∙◌}
 use native.Mathlib.Omega.{arith}
 use lib.Dec.{leb, ltb}
-use lib.ListN.{length, get_or}
-use borrow.Author.Tests.{eq-eqb, lt-ltb, le-leb, leb-true}
+use lib.ListN.{length}
+use borrow.Author.Tests.{eq-eqb, le-leb, leb-true}
 use Rattle.lists.specs.Choice.{both, implies}
 use Rattle.lists.specs.Places.{all_from, every}
 use Rattle.lists.proofs.Choice.{both_left, both_right, both_intro, both_yes, implies_to, implies_of}
@@ -18,9 +18,13 @@ use Rattle.model.specs.declared.Permit.{Permit}
 use Rattle.model.specs.declared.Space.{Space}
 use Rattle.model.specs.declared.Standing.{Standing}
 use Rattle.model.specs.SoundTest.{standing_test, untouched_test, entry_test, entries_test}
-use Rattle.model.specs.Tables.{unused_entry}
 use Rattle.permitted.specs.Columns.{guest_on}
-use Rattle.listed.specs.Standings.{entry_on, standing_with, standings_with, above_test}
+use Rattle.listed.specs.Standings.{entry_on, standing_with, entry_with, entries_with, above_test}
+
+both_assoc : (a b c : Bool) → both a (both b c) ≡ both (both a b) c
+unfolding both
+both_assoc true b c = refl
+both_assoc false b c = refl
 
 -- two tests of each pair, the first by columns and the second by rows
 parted : (s t : ℕ → ℕ → Bool) (m n : ℕ) → every (λ k. every (λ i. both (s k i) (t k i)) n) m ≡ both (every (λ i. every (λ k. s k i) m) n) (every (λ k. every (t k) n) m)
@@ -42,20 +46,19 @@ from_is p l n = same _ _
     (λ e. every_intro _ n (λ i b. implies_of (leb l i) (p i) (λ y. let a : l ≤ i = leb-true l i y in all_at p l (n - l) e i a (omega arith))))
 
 module _ (gs : List Guest) (ss : List Space) (ps : List Permit) (es : List Entry) (ws : List ℕ)
-    (sequence : (k : ℕ) → k < 240 → (get_or es k unused_entry).sequence < 256)
     (standing : (k : ℕ) → k < 8 → (x : Standing) → standing_with ws k x ≡ standing_test ss ps (k + 1) x) where
-  entry_is : (k i : ℕ) → k < 8 → i < 30 → entry_test gs ss ps es (k + 1) (i + 2) ≡ both (standing_with ws k (entry_on es k i).standing) (implies (leb (guest_on gs k).list i) (untouched_test (entry_on es k i)))
-  unfolding entry_test
-  entry_is k i b l =
+  entry_is : (k i : ℕ) → k < 8 → entry_test gs ss ps es (k + 1) (i + 2) ≡ both (entry_with ws k (entry_on es k i)) (implies (leb (guest_on gs k).list i) (untouched_test (entry_on es k i)))
+  unfolding entry_test entry_with
+  entry_is k i b =
       let q : k + 1 - 1 ≡ k = omega arith in
       let r : i + 2 - 2 ≡ i = omega arith in
       let t : ltb ((guest_on gs k).list + 1) (i + 2) ≡ leb (guest_on gs k).list i = same_by (d_lt ((guest_on gs k).list + 1) (i + 2)) (d_le (guest_on gs k).list i) (λ e. omega arith) (λ e. omega arith) in
-      rw (q, r, t) (both_yes _ (lt-ltb (entry_on es k i).sequence 256 (sequence (k * 30 + i) (omega arith))) ∙ ap (λ x. both x (implies (leb (guest_on gs k).list i) (untouched_test (entry_on es k i)))) (sym (standing k b (entry_on es k i).standing)))
+      rw (q, r, t) (ap (λ x. both (ltb (entry_on es k i).sequence 256) (both x (implies (leb (guest_on gs k).list i) (untouched_test (entry_on es k i))))) (sym (standing k b (entry_on es k i).standing)) ∙ both_assoc _ _ _)
 
-  pub entries_is : length es ≡ 240 → both (standings_with ws es) (above_test gs es) ≡ entries_test gs ss ps es
-  unfolding entries_test standings_with above_test
+  pub entries_is : length es ≡ 240 → both (entries_with ws es) (above_test gs es) ≡ entries_test gs ss ps es
+  unfolding entries_test entries_with above_test
   entries_is len =
       sym (both_yes _ (eq-eqb (length es) 240 len)
-      ∙ every_same _ _ 8 (λ k b. every_same _ _ 30 (λ i l. entry_is k i b l))
+      ∙ every_same _ _ 8 (λ k b. every_same _ _ 30 (λ i l. entry_is k i b))
       ∙ parted _ _ 8 30
       ∙ ap (both _) (every_same _ _ 8 (λ k b. from_is _ _ 30)))

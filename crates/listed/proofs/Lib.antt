@@ -1,4 +1,4 @@
-pub mod Rules
 pub mod Valid
 pub mod Passes
 pub mod Entries
+pub mod Above

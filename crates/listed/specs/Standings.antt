@@ -32,5 +32,12 @@ standing_with ws k Revoked = true
 unfoldable pub standings_with : (powers : List ℕ) → List Entry → Bool
 standings_with ws es = every (λ i. every (λ k. standing_with ws k (entry_on es k i).standing) 8) 30
 
+-- an entry of the guest at place k, whose sequence has 8 bits
+unfoldable pub entry_with : (powers : List ℕ) → (place : ℕ) → Entry → Bool
+entry_with ws k e = both (ltb e.sequence 256) (standing_with ws k e.standing)
+
+unfoldable pub entries_with : (powers : List ℕ) → List Entry → Bool
+entries_with ws es = every (λ i. every (λ k. entry_with ws k (entry_on es k i)) 8) 30
+
 unfoldable pub above_test : List Guest → List Entry → Bool
 above_test gs es = every (λ k. all_from (λ i. untouched_test (entry_on es k i)) (guest_on gs k).list (30 - (guest_on gs k).list)) 8

@@ -1,5 +1,5 @@
+pub mod Found
 pub mod Lists
-pub mod Counting
 pub mod Rules
 pub mod Owning
 pub mod Rows

@@ -1,16 +1,19 @@
 -- What stands in a guest's row is that guest. Assumes nothing.
 use Prim.Native.Nat.{ℕ, ◌<◌}
-use mathlib.Core.Bool.{true}
+use mathlib.Core.Bool.{Bool, true, false, not}
 use mathlib.Core.List.{List}
-use mathlib.Core.Path.{◌≡◌, ap, ◌∙◌}
+use mathlib.Core.Path.{◌≡◌, refl, ap, ◌∙◌}
 use lib.ListN.{get_or}
 use Rattle.lists.specs.Choice.{choose}
+use Rattle.std.specs.Prelude.{Option, is_some}
 use Rattle.lists.proofs.Choice.{yes!, both_left, both_when}
 use Rattle.model.specs.declared.Guest.{Guest}
 use Rattle.model.specs.Leaves.{caller_place}
 use Rattle.model.specs.Searches.{enrolled}
 use Rattle.model.specs.Tables.{no_guest, guest_place}
-use Rattle.model.proofs.Rules.{place_yes}
+use Rattle.model.proofs.Rules.{place_yes, place_no}
+use Rattle.lookup.specs.Found.{found}
+use Rattle.lookup.proofs.Found.{found_some, found_not}
 use Rattle.lookup.specs.Rows.{is_guest, row_of, place_by}
 
 -- the row of a guest is its place
@@ -32,3 +35,11 @@ place_by_row gs g r k e p = p ∙ ap (λ j. place_by (get_or gs j no_guest) g) e
 pub enrolled_row : (gs : List Guest) (g r : ℕ) → r ≡ caller_place gs g → r < 8 → row_of g ≡ guest_place g
 unfolding enrolled
 enrolled_row gs g r e l = row_is g (both_left _ _ (place_yes r gs g e l))
+
+-- for search: whether a caller is an enrolled guest, by whether a place was found
+module _ (gs : List Guest) (g : ℕ) (o : Option ℕ) (e : o ≡ found 8 (caller_place gs g)) (none : Bool) (is : is_some o ≡ not none) where
+  pub caller_known : none ≡ false → enrolled gs g ≡ true
+  caller_known n = place_yes (caller_place gs g) gs g refl (found_some 8 _ o e (is ∙ ap not n))
+
+  pub caller_unknown : none ≡ true → enrolled gs g ≡ false
+  caller_unknown y = place_no (caller_place gs g) gs g refl (found_not 8 _ o e (is ∙ ap not y))

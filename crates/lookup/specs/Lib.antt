@@ -1,2 +1,3 @@
+pub mod Found
 pub mod Owned
 pub mod Rows

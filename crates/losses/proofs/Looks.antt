@@ -1,17 +1,17 @@
 -- An entry is revoked, as the model says, by a test of the slot that it names. Assumes nothing.
-use Prim.Native.Nat.{ℕ, ◌≤◌, ◌<◌}
+use Prim.Native.Nat.{ℕ, ◌<◌}
 use mathlib.Core.Bool.{Bool, true, false}
-use mathlib.Core.Path.{◌≡◌, refl, sym, ◌∙◌}
+use mathlib.Core.Path.{◌≡◌, refl, ◌∙◌}
 use native.Mathlib.Omega.{arith}
 use lib.Dec.{eqb}
-use borrow.Author.Tests.{ne_eqb, lt-ltb, le-ltb}
+use borrow.Author.Tests.{ne_eqb}
 use Rattle.lists.specs.Choice.{choose}
-use Rattle.lists.proofs.Choice.{yes!, no!, choose_same}
+use Rattle.lists.proofs.Choice.{no!, choose_same}
 use Rattle.model.specs.declared.Entry.{Entry}
 use Rattle.model.specs.declared.Standing.{Standing}
 use Rattle.model.specs.declared.Standing.TheVariants.{Unused, Valid, Revoked}
 use Rattle.model.specs.Changes.{revoked_from, revoked}
-use Rattle.losses.specs.Looks.{named_slot, look_place, revoked_entry}
+use Rattle.losses.specs.Looks.{named_slot, revoked_entry}
 
 abbrev entry : Standing → (sequence : ℕ) → Entry
 entry x q = record { standing = x; sequence = q }
@@ -34,15 +34,3 @@ revoked_named t e none = by e.standing e.sequence
 -- For search: what `entry_without` has made of an entry.
 pub without_slot : (u n : ℕ) (e r : Entry) → u < 32 → n ≡ named_slot e.standing → r ≡ choose (eqb u n) (revoked_entry e) e → r ≡ revoked (eqb u) e
 without_slot u n e r h p q = q ∙ rw p (revoked_named (eqb u) e (ne_eqb u 32 (λ z. omega arith)))
-
--- For search: where an entry looks.
-module _ (x : Standing) (u : ℕ) (e : u ≡ named_slot x) where
-  pub look_slot : u < 32 → u ≡ look_place x
-  unfolding look_place
-  look_slot h = rw (← e) (sym (yes! u 32 (lt-ltb u 32 h)))
-
-  pub look_last : 32 ≤ u → 32 ≡ look_place x
-  unfolding look_place
-  look_last h = rw (← e) (sym (no! u 32 (le-ltb u 32 h)))
-
-pub ruleset looks = (look_slot, look_last)

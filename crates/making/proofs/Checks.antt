@@ -2,6 +2,9 @@
 use Prim.Native.Nat.{ℕ, ◌≤◌, ◌<◌}
 use mathlib.Core.List.{List}
 use mathlib.Core.Path.{◌≡◌, refl, sym, ap, ◌∙◌}
+use Rattle.std.specs.Prelude.{Option, Some}
+use Rattle.lookup.specs.Found.{found}
+use Rattle.lookup.proofs.Found.{found_is, found_low}
 use Rattle.lookup.proofs.Rules.{found_no, found_yes}
 use Rattle.model.specs.declared.Answer.TheVariants.{SlotsUsed, NoIdentification, NoRun}
 use Rattle.model.specs.declared.Space.{Space}
@@ -11,19 +14,26 @@ use Rattle.model.specs.Searches.{free_slot, free_run, run_in}
 use Rattle.model.proofs.Rules.{check_yes, check_no}
 use Rattle.making.specs.Placing.{HasTables, PlacedAt, NotPlaced}
 
-module _ (F next : ℕ) (ss : List Space) (n slot : ℕ) (slot_is : slot ≡ free_slot ss) where
+pub no_slot : (F next : ℕ) (ss : List Space) (n : ℕ) → 32 ≤ free_slot ss → NotPlaced F next ss n SlotsUsed
+unfolding making
+no_slot F next ss n l s h c = check_no _ _ (found_no (free_slot ss) _ 32 (ap free_slot (sym h.spaces)) l)
+
+-- where a free slot has been found
+module _ (F next : ℕ) (ss : List Space) (n : ℕ) (o : Option ℕ) (e : o ≡ found 32 (free_slot ss)) (slot : ℕ) (is : o ≡ Some slot) where
+  slot_is : slot ≡ free_slot ss
+  slot_is = found_is 32 (free_slot ss) o e slot is
+
+  l : slot < 32
+  l = found_low 32 (free_slot ss) o e slot is
+
   slot_in_lem : (s : State) → HasTables s F next ss → slot ≡ free_slot s.spaces
   slot_in_lem s h = slot_is ∙ ap free_slot (sym h.spaces)
 
-  pub no_slot : 32 ≤ slot → NotPlaced F next ss n SlotsUsed
+  pub spent : 65536 ≤ next → NotPlaced F next ss n NoIdentification
   unfolding making
-  no_slot l s h c = check_no _ _ (found_no slot _ 32 (slot_in_lem s h) l)
+  spent p s h c = check_yes _ _ (found_yes slot _ 32 (slot_in_lem s h) l) ∙ check_no _ _ (found_no next _ 65536 (sym h.next) p)
 
-  pub spent : slot < 32 → 65536 ≤ next → NotPlaced F next ss n NoIdentification
-  unfolding making
-  spent l p s h c = check_yes _ _ (found_yes slot _ 32 (slot_in_lem s h) l) ∙ check_no _ _ (found_no next _ 65536 (sym h.next) p)
-
-  module _ (first : ℕ) (first-is : first ≡ run_in F ss ss n) (l : slot < 32) (p : next < 65536) where
+  module _ (first : ℕ) (first-is : first ≡ run_in F ss ss n) (p : next < 65536) where
     first_in : (s : State) → HasTables s F next ss → first ≡ free_run s n
     first_in s h = rw (h.frames, h.spaces) first-is
 

@@ -7,6 +7,7 @@ use native.Mathlib.Omega.{arith}
 use lib.ListN.{length}
 use lib.Seq.{get_or-set_same}
 use borrow.Author.Tests.{lt-ltb}
+use Rattle.std.specs.Prelude.{Result, Ok, Err}
 use Rattle.model.specs.declared.Answer.{Answer}
 use Rattle.model.specs.declared.Answer.TheVariants.{Done}
 use Rattle.model.specs.declared.Call.{Call}
@@ -27,7 +28,6 @@ use Rattle.model.proofs.Rules.{goes, refused}
 use Rattle.model.proofs.Runs.{lowest_run, has_run}
 use Rattle.model.proofs.SoundTest.{sound_decides}
 use Rattle.making.specs.declared.Placed.{Placed}
-use Rattle.making.specs.declared.Placed.TheVariants.{Refused, At}
 use Rattle.making.specs.Placing.{HasTables, PlacedAt, CallPlacedAt, CallPlacedTo}
 
 module _ (s : State) (owner name pages u : ℕ) (x : Space) (m : List ℕ) (at : PlacedAt s owner name pages u x) where
@@ -61,19 +61,25 @@ module _ (s : State) (owner name pages u : ℕ) (x : Space) (m : List ℕ) (at :
         })))
 
 -- What a call has decided, in the state that has the tables.
-module _ (s : State) (k : Call) (name pages : ℕ) (ch : State → Change) (r : Placed) (d : CallPlacedTo s.frames s.next s.spaces s.guests k name pages ch r) (m : List ℕ) where
-  known : (y : Placed) → r ≡ y → CallPlacedTo s.frames s.next s.spaces s.guests k name pages ch y
+module _ (s : State) (k : Call) (name pages : ℕ) (ch : State → Change) (r : Result Placed Answer) (d : CallPlacedTo s.frames s.next s.spaces s.guests k name pages ch r) (m : List ℕ) where
+  known : (y : Result Placed Answer) → r ≡ y → CallPlacedTo s.frames s.next s.spaces s.guests k name pages ch y
   known y e = subst (CallPlacedTo s.frames s.next s.spaces s.guests k name pages ch) e d
 
   shown : HasTables s s.frames s.next s.spaces
   shown = record { frames = refl; next = refl; spaces = refl }
 
-  pub refuses : (a : Answer) → r ≡ Refused a → Carried s (judge s k 0) (reply a s) m m
-  refuses a e = refused s _ a m (known (Refused a) e s shown refl)
+  pub refuses : (a : Answer) → r ≡ Err a → Carried s (judge s k 0) (reply a s) m m
+  refuses a e = refused s _ a m (known (Err a) e s shown refl)
 
-  module _ (u : ℕ) (x : Space) (e : r ≡ At u x) where
+  module _ (p : Placed) (e : r ≡ Ok p) where
+    abbrev u : ℕ
+    u = p.slot
+
+    abbrev x : Space
+    x = p.space
+
     granted : CallPlacedAt s k name pages (ch s) u x
-    granted = known (At u x) e s shown refl
+    granted = known (Ok p) e s shown refl
 
     pub slot_low : u < 32
     slot_low = granted.placed.low
@@ -84,9 +90,9 @@ module _ (s : State) (k : Call) (name pages : ℕ) (ch : State → Change) (r : 
     pub guest_high : k.caller.guest ≤ 8
     guest_high = granted.guest.high
 
-    -- the identification is not the last
-    pub next_small : s.next + 1 < 4294967296
-    next_small = omega (arith, granted.placed.unspent)
+    -- there is an identification left
+    pub next_low : s.next < 65536
+    next_low = granted.placed.unspent
 
     -- the run of the new space lies in scratch
     pub run_inside : length m ≡ s.frames * 4096 → x.first * 4096 + x.pages * 4096 ≤ length m

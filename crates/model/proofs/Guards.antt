@@ -19,8 +19,6 @@ use Rattle.model.specs.declared.Right.TheVariants.{Read, Write}
 use Rattle.model.specs.declared.Standing.{Standing}
 use Rattle.model.specs.declared.Standing.TheVariants.{Unused, Valid, Revoked}
 use Rattle.model.specs.declared.State.{State}
-use Rattle.model.specs.declared.Translation.{Translation}
-use Rattle.model.specs.declared.Translation.TheVariants.{Reached, Refused}
 use Rattle.model.specs.Answers.{limit_number, number}
 use Rattle.model.specs.Arguments.{Argument, arguments, check_all}
 use Rattle.model.specs.Calls.{making, enrol, create, owning, destroy, permit, isolate, entitled, query, add, remove, load, mode, writes, access_at, access, target, access_key, fetching, storing, reset, set_key, block, perform, good_caller, judge, ready, decide}
@@ -31,9 +29,10 @@ use Rattle.model.specs.Names.{base_name}
 use Rattle.model.specs.Searches.{is_unused, slot_of, slot_named, primary_slot, data_spaces, free_slot, free_run, free_entry}
 use Rattle.model.specs.Tables.{space_at, guest_at, cpu_at, cpu_place, entry_at}
 use Rattle.model.specs.Tokens.{malformed, assigned, entry_number, token_used}
-use Rattle.model.specs.Translation.{through_standing, translate}
+use Rattle.model.specs.Translation.{Translation, through_standing, translate}
 use Rattle.model.specs.Verdict.{own_row, row}
 use Rattle.model.proofs.Tokens.{assigned_used}
+use Rattle.model.proofs.Reached.{slot_in, right_in}
 
 -- A check, with the number that a call answers where it fails. A call's answer is that of the first that fails.
 pub record Check : Type 0 where
@@ -64,14 +63,6 @@ abbrev is_revoked : Standing → Bool
 is_revoked Unused = false
 is_revoked (Valid u r) = false
 is_revoked Revoked = true
-
-abbrev slot_in : Translation → ℕ
-slot_in (Reached u r) = u
-slot_in (Refused a) = 0
-
-abbrev right_in : Translation → Right
-right_in (Reached u r) = r
-right_in (Refused a) = Read
 
 abbrev store_checks : (storing : Bool) → Right → List Check → List Check
 store_checks true r more = test 18 (writes r) ∷ more

@@ -1,6 +1,7 @@
 -- Every call's verdict: one law over all calls, from one law about a check. Assumes nothing.
 use Prim.Native.Nat.{ℕ, ◌+◌, ◌≤◌}
 use mathlib.Core.Bool.{Bool, true, false, not}
+use Rattle.std.specs.Prelude.{Ok, Err}
 use mathlib.Core.List.{List, [], ◌∷◌}
 use mathlib.Core.Path.{◌≡◌, refl, ap}
 use native.Mathlib.Omega.{arith}
@@ -22,8 +23,6 @@ use Rattle.model.specs.declared.Right.TheVariants.{Read}
 use Rattle.model.specs.declared.Standing.{Standing}
 use Rattle.model.specs.declared.Standing.TheVariants.{Unused, Valid, Revoked}
 use Rattle.model.specs.declared.State.{State}
-use Rattle.model.specs.declared.Translation.{Translation}
-use Rattle.model.specs.declared.Translation.TheVariants.{Reached, Refused}
 use Rattle.model.specs.Answers.{limit_number, names_argument, number}
 use Rattle.model.specs.Arguments.{Argument, arguments, check_all}
 use Rattle.model.specs.Calls.{making, enrol, create, owning, destroy, permit, isolate, entitled, query, add, remove, load, mode, writes, access_at, access, target, access_key, fetching, storing, reset, set_key, block, perform, good_caller, judge, ready, decide}
@@ -35,7 +34,7 @@ use Rattle.model.specs.Names.{base_name}
 use Rattle.model.specs.Searches.{slot_of, slot_named, data_spaces, free_slot, free_run, free_entry}
 use Rattle.model.specs.Tables.{space_at, guest_at, entry_at}
 use Rattle.model.specs.Tokens.{malformed, assigned, entry_number}
-use Rattle.model.specs.Translation.{through_standing, translate}
+use Rattle.model.specs.Translation.{Translation, reaches, through_standing, translate}
 use Rattle.model.specs.Verdict.{row, own_row, listed, Verdict, refused, granted}
 use Rattle.model.proofs.Answers.{argument_named}
 
@@ -84,7 +83,7 @@ module _ (s : State) (row : List ℕ) where
       k (record { slot = ltb-true _ _ e1; owner = eqb-true _ _ e2 })))
 
 -- translation refuses with one of three answers
-refusal_elim : (P : Answer → Type 0) → P AletSpecification → P AlenTranslation → P AddressingCapability → (s : State) (g t : ℕ) (a : Answer) → translate s g t ≡ Refused a → P a
+refusal_elim : (P : Answer → Type 0) → P AletSpecification → P AlenTranslation → P AddressingCapability → (s : State) (g t : ℕ) (a : Answer) → translate s g t ≡ Err a → P a
 unfolding translate through_standing
 refusal_elim P p14 p15 p16 s g t a =
     choose_elim Fine (eqb t 0) _ _ (λ _ e. absurd (let z : ◌≡◌ {A = ℕ} 0 1 = cc in omega arith)) (λ _.
@@ -93,7 +92,7 @@ refusal_elim P p14 p15 p16 s g t a =
     through (entry_at s.entries g (entry_number t)).standing)))
   where
     Fine : Translation → Type 0
-    Fine x = x ≡ Refused a → P a
+    Fine x = x ≡ Err a → P a
 
     through : (x : Standing) → Fine (through_standing x)
     through Unused e = let q : AlenTranslation ≡ a = cc in rw (← q) p15
@@ -112,7 +111,7 @@ module _ (s : State) (c : Caller) (row : List ℕ) (r a n : ℕ) (storing : Bool
   unfolding access access_at number check target
   access_verdict l14 l15 l16 l17 l18 l22 = go (target s c r) refl
     where
-      protect : (u : ℕ) (x : Right) → target s c r ≡ Reached u x → a + n ≤ size_of s.spaces u → (b : Bool) → implies storing (writes x) ≡ b
+      protect : (u : ℕ) (x : Right) → target s c r ≡ reaches u x → a + n ≤ size_of s.spaces u → (b : Bool) → implies storing (writes x) ≡ b
           → Verdict row Fetched (check b Protection (check (key_permits s storing (access_key s c) u a n) KeyProtection (accept 0 Keep (f u))))
       protect u x e i true w =
           check_verdict row Fetched (key_permits s storing (access_key s c) u a n) KeyProtection _ refl l22 (λ k.
@@ -120,10 +119,10 @@ module _ (s : State) (c : Caller) (row : List ℕ) (r a n : ℕ) (storing : Bool
       protect u x e i false w = refusal row Fetched Protection refl (l18 (implies_not storing (writes x) w))
 
       go : (t : Translation) → target s c r ≡ t → Verdict row Fetched (access s (access_key s c) a n storing f t)
-      go (Reached u x) e =
-          check_verdict row Fetched (leb (a + n) (size_of s.spaces u)) Addressing _ refl l17 (λ i.
-          protect u x e (leb-true _ _ i) (implies storing (writes x)) refl)
-      go (Refused x) e =
+      go (Ok x) e =
+          check_verdict row Fetched (leb (a + n) (size_of s.spaces x.slot)) Addressing _ refl l17 (λ i.
+          protect x.slot x.right e (leb-true _ _ i) (implies storing (writes x.right)) refl)
+      go (Err x) e =
           refusal_elim (λ y. Verdict row Fetched (refuse y))
           (refusal row Fetched AletSpecification refl l14)
           (refusal row Fetched AlenTranslation refl l15)

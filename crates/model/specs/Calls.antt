@@ -1,7 +1,7 @@
 -- Paper 01, "The calls, each with its order of checks": each call as a decision on tables and lengths, its checks one chain
 -- in the paper's order. The checks of its arguments follow check 2 and stand in Arguments: where a row of the paper has its one
 -- number for them, ".." stands here, and the numbers are those of paper 02, M-102.
-use Rattle.std.specs.Prelude.{ℕ, ◌+◌, ◌*◌, ◌/◌, Bool, true, false, not, List, leb, ltb, eqb}
+use Rattle.std.specs.Prelude.{ℕ, ◌+◌, ◌*◌, ◌/◌, Bool, true, false, not, List, leb, ltb, eqb, Ok, Err}
 use Rattle.lists.specs.Choice.{choose, both, either, implies}
 use Rattle.model.specs.declared.Answer.TheVariants.{Unsound, BadCaller, NameTaken, NoSpace, NotOwner, NoSharing, AllowanceUsed, SlotsUsed, NoRun, NoIdentification, NotPermitted, ListFull, AletSpecification, AlenTranslation, Addressing, Protection, SpecialOperation, PrimarySpace, KeyProtection}
 use Rattle.model.specs.declared.Call.{Call}
@@ -17,8 +17,6 @@ use Rattle.model.specs.declared.Settings.{Settings}
 use Rattle.model.specs.declared.Space.{Space}
 use Rattle.model.specs.declared.Standing.TheVariants.{Valid}
 use Rattle.model.specs.declared.State.{State}
-use Rattle.model.specs.declared.Translation.{Translation}
-use Rattle.model.specs.declared.Translation.TheVariants.{Reached, Refused}
 use Rattle.model.specs.Arguments.{arguments, check_all}
 use Rattle.model.specs.Classes.{class_of}
 use Rattle.model.specs.Changes.{allows, raised, released, freed, applied}
@@ -31,7 +29,7 @@ use Rattle.model.specs.Sizes.{guest_count, slot_count, frame_size, spent_identif
 use Rattle.model.specs.SoundTest.{sound}
 use Rattle.model.specs.Tables.{space_at, guest_at, guest_place, cpu_at, cpu_place, grant_at, permit_place, entry_at, entry_place}
 use Rattle.model.specs.Tokens.{token, entry_number, malformed, assigned, token_used}
-use Rattle.model.specs.Translation.{translate}
+use Rattle.model.specs.Translation.{Translation, translate}
 
 -- ENROL and CREATE "take the lowest unused space slot and the lowest run of free frames, and fill it with zeros".
 -- Both end in the checks 9, 11, 10; `c` is the change that adds the space.
@@ -154,8 +152,8 @@ access_at s key a n storing f u r =
     (check (key_permits s storing key u a n) KeyProtection (accept 0 Keep f)))
 
 unfoldable pub access : State → (key address buffer : ℕ) → (storing : Bool) → ((slot : ℕ) → Effect) → Translation → Decision
-access s key a n storing f (Reached u r) = access_at s key a n storing (f u) u r
-access s key a n storing f (Refused x) = refuse x
+access s key a n storing f (Ok x) = access_at s key a n storing (f x.slot) x.slot x.right
+access s key a n storing f (Err x) = refuse x
 
 -- the token that a caller uses through a register, translated
 unfoldable pub target : State → Caller → (register : ℕ) → Translation

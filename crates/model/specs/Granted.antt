@@ -11,7 +11,6 @@ use Rattle.model.specs.declared.Right.{Right}
 use Rattle.model.specs.declared.Right.TheVariants.{Read}
 use Rattle.model.specs.declared.Standing.TheVariants.{Valid}
 use Rattle.model.specs.declared.State.{State}
-use Rattle.model.specs.declared.Translation.TheVariants.{Reached}
 use Rattle.model.specs.Arguments.{Argument, arguments}
 use Rattle.model.specs.Calls.{enrolling, creating, destroying, entitled, writes, target, access_key, good_caller, ready}
 use Rattle.model.specs.Changes.{raised, released, applied}
@@ -23,6 +22,7 @@ use Rattle.model.specs.Searches.{is_data, slot_of, slot_named, data_spaces, free
 use Rattle.model.specs.Sizes.{slot_count, frame_size, spent_identification}
 use Rattle.model.specs.Tables.{space_at, guest_at, cpu_place, grant_at, permit_place, entry_at, entry_place}
 use Rattle.model.specs.Tokens.{token, entry_number, malformed, assigned}
+use Rattle.model.specs.Translation.{reaches}
 
 -- a space was made
 pub record Made (s : State) (pages : ℕ) (c : Change) (d : Decision) : Type 0 where
@@ -87,7 +87,7 @@ pub record ModeSet (s : State) (c : Caller) (m : ℕ) (d : Decision) : Type 0 wh
 pub record Accessed (s : State) (c : Caller) (r a n : ℕ) (storing : Bool) (f : ℕ → Effect) (d : Decision) : Type 0 where
   pub slot : ℕ
   pub right : Right
-  pub reached : target s c r ≡ Reached slot right
+  pub reached : target s c r ≡ reaches slot right
   pub inside : a + n ≤ size_of s.spaces slot
   pub writable : storing ≡ true → writes right ≡ true
   pub key : key_permits s storing (access_key s c) slot a n ≡ true

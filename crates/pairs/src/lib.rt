@@ -1,5 +1,5 @@
 // The exact test that live spaces stand apart: each slot against each other one.
-#![tactic(auto)]
+#![tactic(auto, unfolding(lists::specs::Choice::both, lists::specs::Choice::either, lists::specs::Choice::implies, model::specs::SoundTest::frames_apart, model::specs::SoundTest::same_name, model::specs::SoundTest::pair_test))]
 
 ghost use Rattle.std.specs.Prelude.{◌≡◌, eqb};
 ghost use Rattle.lists.specs.Choice.{either};
@@ -7,58 +7,35 @@ ghost use Rattle.model.specs.SoundTest.{frames_apart, same_name, pair_test, apar
 
 use model::Space;
 
-fn frames_apart(x: Space, y: Space) -> bool
-    ensures { result ≡ frames_apart x y }
+fn frames_apart(x: &Space, y: &Space) -> bool
+    ensures { result ≡ frames_apart x.now y.now }
 {
-    if (x.first as u32) + (x.pages as u32) <= y.first as u32 {
-        return true;
-    }
-    (y.first as u32) + (y.pages as u32) <= x.first as u32
+    slots::end(x) <= u32::from(y.first) || slots::end(y) <= u32::from(x.first)
 }
 
-fn same_name(x: Space, y: Space) -> bool
-    ensures { result ≡ same_name x y }
+fn same_name(x: &Space, y: &Space) -> bool
+    ensures { result ≡ same_name x.now y.now }
 {
-    if x.owner == y.owner {
-        return x.name == y.name;
-    }
-    false
+    x.owner == y.owner && x.name == y.name
 }
 
-fn apart(x: Space, y: Space) -> bool
-    ensures { result ≡ pair_test x y }
+fn apart(x: &Space, y: &Space) -> bool
+    ensures { result ≡ pair_test x.now y.now }
 {
-    if x.id == 0 {
-        return true;
-    }
-    if y.id == 0 {
-        return true;
-    }
-    if !frames_apart(x, y) {
-        return false;
-    }
-    if x.id == y.id {
-        return false;
-    }
-    !same_name(x, y)
+    x.id == 0 || y.id == 0 || frames_apart(x, y) && x.id != y.id && !same_name(x, y)
 }
 
-fn pair_ok(u: usize, v: usize, x: Space, y: Space) -> bool
-    ensures { result ≡ either (eqb u v) (pair_test x y) }
+fn pair_ok(u: usize, v: usize, x: &Space, y: &Space) -> bool
+    ensures { result ≡ either (eqb u v) (pair_test x.now y.now) }
 {
-    if u == v {
-        return true;
-    }
-    apart(x, y)
+    u == v || apart(x, y)
 }
 
-pub fn apart_ok(spaces: [Space; 32]) -> bool
-    ensures { result ≡ apart_test spaces }
+pub fn apart_ok(spaces: &[Space; 32]) -> bool
+    ensures { result ≡ apart_test spaces.now }
 {
-    for u in 0..32usize {
-        for v in 0..32usize {
-            let x = spaces[u];
-            let y = spaces[v];
+    for (u, x) in spaces.iter().enumerate() {
+        for (v, y) in spaces.iter().enumerate() {
             if !pair_ok(u, v, x, y) {
                 return false;
             }

@@ -8,44 +8,25 @@ ghost use Rattle.model.specs.Changes.{allows as allowed, raised};
 use model::{Grant, Permit, Right, Space};
 
 // Write includes read.
+#[tactic(auto, unfolding(model::specs::Changes::allows, model::specs::Changes::raised))]
 pub fn allows(g: Grant, r: Right) -> bool
     ensures { result ≡ allowed g r }
 {
-    match g {
-        Grant::Nothing => false,
-        Grant::Reading => match r {
-            Right::Read => true,
-            Right::Write => false,
-        },
-        Grant::Writing => true,
-    }
+    g >= Grant::from(r)
 }
 
 // Whether a guest owns a space, or has a permit for it that allows the right.
+#[tactic(auto, using(std::proofs::lemmas::Bool::Decides::nat_tests), unfolding(lists::specs::Choice::either))]
 pub fn is_entitled(x: Space, p: Permit, guest: u32, right: Right) -> bool
     ensures { result ≡ either (eqb x.owner guest) (allowed p.grant right) }
 {
-    let owner = x.owner as u32;
-    if owner == guest {
-        return true;
-    }
-    let grant = p.grant;
-    allows(grant, right)
+    u32::from(x.owner) == guest || allows(p.grant, right)
 }
 
 // The greater of what was permitted and the right that is given now.
+#[tactic(auto, unfolding(model::specs::Changes::raised))]
 pub fn raise(g: Grant, r: Right) -> Grant
     ensures { result ≡ raised g r }
 {
-    match g {
-        Grant::Nothing => match r {
-            Right::Read => Grant::Reading,
-            Right::Write => Grant::Writing,
-        },
-        Grant::Reading => match r {
-            Right::Read => Grant::Reading,
-            Right::Write => Grant::Writing,
-        },
-        Grant::Writing => Grant::Writing,
-    }
+    g.max(Grant::from(r))
 }

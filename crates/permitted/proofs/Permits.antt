@@ -2,16 +2,18 @@
 use Prim.Native.Nat.{ℕ, ◌+◌, ◌-◌, ◌*◌, ◌/◌, ◌%◌, ◌≤◌, ◌<◌}
 use mathlib.Core.Bool.{Bool, true, false, not}
 use mathlib.Core.List.{List}
-use mathlib.Core.Logic.{◌≢◌, inl, inr}
+use mathlib.Core.Logic.{inl, inr}
 use mathlib.Core.Path.{◌≡◌, refl, sym, ap, ap₂, ◌∙◌}
 use native.Mathlib.Omega.{arith}
 use lib.Dec.{leb, eqb}
 use lib.ListN.{length, get_or}
 use borrow.Author.Tests.{eq-eqb, ne_eqb, le-leb}
+use Rattle.std.specs.Prelude.{Some, None}
 use Rattle.lists.specs.Choice.{choose, both, implies}
-use Rattle.lists.proofs.Choice.{true_false, both_yes, both_no, both_intro, yes!, no! }
-use Rattle.lists.proofs.Decides.{d_eq, d_le, d_every, same_by}
-use Rattle.lists.proofs.Places.{every_same}
+use Rattle.lists.proofs.Choice.{both_yes, both_no, both_intro, yes!, no! }
+use Rattle.lists.specs.Places.{every}
+use Rattle.lists.proofs.Decides.{d_eq, same, same_by}
+use Rattle.lists.proofs.Places.{every_at, every_intro, every_same}
 use Rattle.model.specs.declared.Grant.{Grant}
 use Rattle.model.specs.declared.Grant.TheVariants.{Nothing, Reading, Writing}
 use Rattle.model.specs.declared.Guest.{Guest}
@@ -23,7 +25,7 @@ use Rattle.model.specs.Searches.{enrolled}
 use Rattle.model.specs.SoundTest.{permit_test, permits_test}
 use Rattle.model.specs.Tables.{space_at, live, guest_at, grant_at}
 use Rattle.model.proofs.Searches.{live_of}
-use Rattle.permitted.specs.Columns.{Filled, guest_on, Owners, owner_in, OwnersOf, number_at, may_at, limit_at, Excess, permit_with, permits_with, power_at, Powers, Permits}
+use Rattle.permitted.specs.Columns.{Filled, guest_on, Owners, owner_in, OwnersOf, number_at, may_at, limit_at, permit_with, permits_with, power_at, Powers, Permits}
 use Rattle.permitted.specs.Elements.{Owned, OwnerIs, grant_number, may_be}
 
 -- a permit's number against what may be permitted
@@ -95,8 +97,8 @@ module _ (gs : List Guest) (ss : List Space) (ps : List Permit) (ts : List ℕ) 
   unfolding permits_with permits_test
   permits_is len = every_same _ _ 32 (λ u l. every_same _ _ 8 (λ k b. within u k l b)) ∙ sym (both_yes _ (eq-eqb (length ps) 256 len))
 
--- what the pass over the permits leaves
-module _ (gs : List Guest) (ps : List Permit) (ts ns ms ls : List ℕ) (r : ℕ) (numbers : Filled ns (number_at ps) 256) (small : Owners ts) (may : Filled ms (may_at gs) 72) (limits : Filled ls (limit_at ms ts) 256) (over : Excess ns ls 256 r) where
+-- what the pass over the permits gives
+module _ (gs : List Guest) (ps : List Permit) (ts ns ms ls : List ℕ) (r : Bool) (numbers : Filled ns (number_at ps) 256) (small : Owners ts) (may : Filled ms (may_at gs) 72) (limits : Filled ls (limit_at ms ts) 256) (within : r ≡ every (λ j. leb (get_or ns j 0) (get_or ls j 0)) 256) where
   limit_is : (u k : ℕ) → u < 32 → k < 8 → get_or ls (u * 8 + k) 0 ≡ may_at gs (owner_in ts u * 8 + k)
   limit_is u k l b =
       let p : (u * 8 + k) / 8 ≡ u = omega arith in
@@ -105,24 +107,23 @@ module _ (gs : List Guest) (ps : List Permit) (ts ns ms ls : List ℕ) (r : ℕ)
       ∙ ap₂ (λ v j. get_or ms (owner_in ts v * 8 + j) 0) p q
       ∙ may.at (owner_in ts u * 8 + k) (omega (arith, small.below u l))
 
-  excess_is : eqb r 0 ≡ permits_with gs ps ts
+  within_permits : r ≡ permits_with gs ps ts
   unfolding permits_with
-  excess_is = same_by (d_eq r 0) (d_every 32 (λ u. d_every 8 (λ k. d_le (number_at ps (u * 8 + k)) (may_at gs (owner_in ts u * 8 + k))))) to of
+  within_permits = within ∙ same _ _
+      (λ e. every_intro _ 32 (λ u l. every_intro _ 8 (λ k b. sym (place u k l b) ∙ every_at _ 256 e (u * 8 + k) (omega arith))))
+      (λ e. every_intro _ 256 (λ j b.
+      let q : j / 8 * 8 + j % 8 ≡ j = omega arith in
+      rw q at (place (j / 8) (j % 8) (omega arith) (omega arith) ∙ every_at _ 8 (every_at _ 32 e (j / 8) (omega arith)) (j % 8) (omega arith))))
     where
-      to : r ≡ 0 → (u : ℕ) → u < 32 → (k : ℕ) → k < 8 → number_at ps (u * 8 + k) ≤ may_at gs (owner_in ts u * 8 + k)
-      to z u l k b = omega (arith, over.none z (u * 8 + k) (omega arith), numbers.at (u * 8 + k) (omega arith), limit_is u k l b)
+      place : (u k : ℕ) → u < 32 → k < 8 → leb (get_or ns (u * 8 + k) 0) (get_or ls (u * 8 + k) 0) ≡ permit_with gs ps ts u k
+      place u k l b = ap₂ (λ x y. leb x y) (numbers.at (u * 8 + k) (omega arith)) (limit_is u k l b)
 
-      of : ((u : ℕ) → u < 32 → (k : ℕ) → k < 8 → number_at ps (u * 8 + k) ≤ may_at gs (owner_in ts u * 8 + k)) → r ≡ 0
-      of h = over.zero (λ j b. let q : j / 8 * 8 + j % 8 ≡ j = omega arith in rw q at (cell (j / 8) (j % 8) (omega arith) (omega arith)))
-        where
-          cell : (u k : ℕ) → u < 32 → k < 8 → get_or ns (u * 8 + k) 0 ≤ get_or ls (u * 8 + k) 0
-          cell u k l b = omega (arith, h u l k b, numbers.at (u * 8 + k) (omega arith), limit_is u k l b)
+  pub permits_stop : length ps ≡ 256 → r ≡ false → Permits None gs ps ts
+  permits_stop len e = record { long = len; test = sym e ∙ within_permits; table = tt }
 
-  pub permits_stop : r ≢ 0 → Permits false gs ps ts ns
-  permits_stop n = record { test = sym (ne_eqb r 0 n) ∙ excess_is; table = λ z. true_false z refl }
-
-  pub permits_done : (ws : List ℕ) → r ≡ 0 → Powers ts ns ws → Permits true gs ps ts ws
-  permits_done ws z powers = record {
-    test = sym (eq-eqb r 0 z) ∙ excess_is;
-    table = λ _. record { at = λ u k l b. powers.at u k l b ∙ ap (power_at ts u k) (numbers.at (u * 8 + k) (omega arith)) };
+  pub permits_done : (ws : List ℕ) → length ps ≡ 256 → r ≡ true → Powers ts ns ws → Permits (Some ws) gs ps ts
+  permits_done ws len e powers = record {
+    long = len;
+    test = sym e ∙ within_permits;
+    table = record { at = λ u k l b. powers.at u k l b ∙ ap (power_at ts u k) (numbers.at (u * 8 + k) (omega arith)) };
   }

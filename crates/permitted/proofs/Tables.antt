@@ -1,5 +1,6 @@
 -- Loops that fill a table. Assumes nothing.
 use Prim.Native.Nat.{ℕ, ◌+◌, ◌-◌, ◌*◌, ◌/◌, ◌%◌, ◌≤◌, ◌<◌}
+use mathlib.Core.Bool.{Bool, true, false}
 use mathlib.Core.List.{List}
 use mathlib.Core.Logic.{◌≢◌}
 use mathlib.Core.Path.{◌≡◌, refl, sym, ap, ap₂, ◌∙◌}
@@ -7,8 +8,12 @@ use native.Mathlib.Decide.{ℕ_discrete}
 use native.Mathlib.Omega.{arith}
 use lib.ListN.{length, get_or, set, length-set, replicate, get_or-replicate}
 use lib.Seq.{get_or-set_other}
+use Rattle.std.specs.Prelude.{◌&&◌}
+use Rattle.lists.specs.Choice.{both}
+use Rattle.lists.specs.Places.{all_from, every}
 use borrow.Author.Tests.{eq-eqb, ne_eqb}
 use Rattle.lists.proofs.Choice.{yes!, no! }
+use Rattle.lists.proofs.Decides.{every_more}
 use Rattle.lists.proofs.Maps.{at_set}
 use Rattle.model.specs.declared.Guest.{Guest}
 use Rattle.permitted.specs.Columns.{Filled, guest_on, owner_in, may_at, limit_at, power_at, Powers}
@@ -35,6 +40,19 @@ module _ (t : List ℕ) (f : ℕ → ℕ) (n : ℕ) where
   fill_end i m l h = record { long = omega arith; at = λ k b. h.at k (omega arith) }
 
 pub ruleset fills = (fill_start, fill_go, fill_end)
+
+-- a loop that holds every place against a test, to the end
+pub every_none : (p : ℕ → Bool) → true ≡ every p 0
+unfolding every all_from
+every_none p = refl
+
+pub every_go : (x : Bool) (p : ℕ → Bool) (n : ℕ) → x ≡ every p n → x && p n ≡ every p (n + 1)
+unfolding both
+every_go x p n e = both_is x (p n) ∙ ap (λ y. both y (p n)) e ∙ sym (every_more p n)
+  where
+    both_is : (a b : Bool) → a && b ≡ both a b
+    both_is true b = refl
+    both_is false b = refl
 
 -- the table of what may be permitted: row 0 of zeros stands, then row after row
 module _ (gs : List Guest) where

@@ -1,5 +1,5 @@
 -- What the small tables hold, and the test over them.
-use Rattle.std.specs.Prelude.{ℕ, ◌+◌, ◌-◌, ◌*◌, ◌/◌, ◌%◌, ◌≤◌, ◌<◌, Bool, true, List, ◌≡◌, length, get_or, leb, eqb}
+use Rattle.std.specs.Prelude.{ℕ, ◌+◌, ◌-◌, ◌*◌, ◌/◌, ◌%◌, ◌≤◌, ◌<◌, Bool, Option, is_some, IfSome, List, ◌≡◌, length, get_or, leb, eqb}
 use Rattle.lists.specs.Choice.{choose}
 use Rattle.lists.specs.Places.{every}
 use Rattle.model.specs.declared.Guest.{Guest}
@@ -40,12 +40,6 @@ may_at gs j = choose (eqb (j / 8) 0) 0 (may_be (guest_on gs (j / 8 - 1)) (guest_
 abbrev pub limit_at : (may tags : List ℕ) → (place : ℕ) → ℕ
 limit_at ms ts j = get_or ms (owner_in ts (j / 8) * 8 + j % 8) 0
 
--- how many of the first n numbers are over their limits: at most n, and 0 exactly where none is
-pub record Excess (numbers limits : List ℕ) (n r : ℕ) : Type 0 where
-  pub most : r ≤ n
-  pub none : r ≡ 0 → (k : ℕ) → k < n → get_or numbers k 0 ≤ get_or limits k 0
-  pub zero : ((k : ℕ) → k < n → get_or numbers k 0 ≤ get_or limits k 0) → r ≡ 0
-
 abbrev pub permit_with : List Guest → List Permit → (tags : List ℕ) → (slot place : ℕ) → Bool
 permit_with gs ps ts u k = leb (number_at ps (u * 8 + k)) (may_at gs (owner_in ts u * 8 + k))
 
@@ -63,7 +57,8 @@ pub record Powers (tags numbers powers : List ℕ) : Type 0 where
 pub record PowersOf (ps : List Permit) (tags powers : List ℕ) : Type 0 where
   pub at : (u k : ℕ) → u < 32 → k < 8 → get_or powers (u * 8 + k) 0 ≡ power_at tags u k (number_at ps (u * 8 + k))
 
--- what the pass over the permits says, and the table of powers that it leaves
-pub record Permits (r : Bool) (gs : List Guest) (ps : List Permit) (tags powers : List ℕ) : Type 0 where
-  pub test : r ≡ permits_with gs ps tags
-  pub table : r ≡ true → PowersOf ps tags powers
+-- what the pass over the permits says, and the table of powers that it gives
+pub record Permits (r : Option (List ℕ)) (gs : List Guest) (ps : List Permit) (tags : List ℕ) : Type 0 where
+  pub long : length ps ≡ 256
+  pub test : is_some r ≡ permits_with gs ps tags
+  pub table : IfSome r (PowersOf ps tags)

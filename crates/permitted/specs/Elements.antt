@@ -1,5 +1,5 @@
 -- Permits and owners as numbers.
-use Rattle.std.specs.Prelude.{ℕ, ◌+◌, ◌≤◌, ◌%◌, not, ◌⊎◌, ◌≡◌, eqb, ltb}
+use Rattle.std.specs.Prelude.{ℕ, ◌+◌, ◌≤◌, ◌%◌, not, ◌⊎◌, ◌≡◌, eqb}
 use Rattle.lists.specs.Choice.{choose, both}
 use Rattle.model.specs.declared.Grant.{Grant}
 use Rattle.model.specs.declared.Grant.TheVariants.{Nothing, Reading, Writing}
@@ -30,10 +30,6 @@ grant_number Writing = 2
 -- what guest k + 1 may be permitted of the spaces of an owner
 unfoldable pub may_be : (owner : Guest) → (guest : Guest) → (owner_place place : ℕ) → ℕ
 may_be o h i k = choose (both (not (eqb i k)) (both o.share h.enrolled)) 2 0
-
--- 1 for a number over its limit
-unfoldable pub over_of : (number limit : ℕ) → ℕ
-over_of n m = choose (ltb m n) 1 0
 
 -- the owner of a live space may write
 unfoldable pub power_with : (owner number : ℕ) → ℕ

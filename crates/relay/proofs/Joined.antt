@@ -1,14 +1,13 @@
 -- An ending after input that was answered before. Assumes nothing.
-use Rattle.std.proofs.Common.{◌≡◌, ℕ, ◌+◌, ◌-◌, ◌<◌, ◌≤◌, true, false, List, [], ◌++◌, length, take, sym, refl, ap, ◌∙◌, subst, append_assoc, arith, length-append, length-take}
+use Rattle.std.proofs.Common.{◌≡◌, ℕ, ◌+◌, ◌<◌, List, Ok, Err, [], ◌++◌, length, take, sym, refl, ap, ◌∙◌, subst, append_assoc, mod-lt, lit<, arith, length-append}
 use lib.Seq.{take-append-add, take-append-le}
 use Rattle.feeds.specs.Feed.{Feed, after, said, last_words, all_said}
 use Rattle.feeds.specs.Fed.{closing}
 use Rattle.feeds.proofs.Pieces.{after_append, said_append}
-use Rattle.relay.specs.declared.How.{How}
-use Rattle.relay.specs.declared.How.TheVariants.{WritingFailed}
-use Rattle.relay.specs.declared.Said.{Said}
+use Rattle.relay.specs.declared.Failure.{Failure}
+use Rattle.relay.specs.declared.Halt.{Halt}
 use Rattle.relay.specs.Spoken.{counted, replied_to}
-use Rattle.relay.specs.Ran.{PieceTo, Ran, answered, unread, unwritten}
+use Rattle.relay.specs.Ran.{How, PieceTo, Ran, answered, unread, unwritten}
 use Rattle.relay.proofs.Lines.{Numbered, numbered}
 use Rattle.relay.proofs.Spoken.{replied_join, sum_join}
 
@@ -19,17 +18,17 @@ pub record Came (f : Feed) (t₀ w₀ t w : ℕ) (g : Feed) : Type 0 where
   pub taken : t ≡ counted (t₀ + length input)
   pub text : w ≡ counted (w₀ + length (said f input))
 
-pub came_start : (f : Feed) → Came f 0 0 0 0 f
+pub came_start : (f : Feed) {t w : ℕ} → t ≡ 0 → w ≡ 0 → Came f 0 0 t w f
 unfolding after said
-came_start f = record { input = []; feed = refl; taken = refl; text = refl }
-
--- a piece that is lent as the first n bytes of the room
-pub part_taken : {r : ℕ} (t n : ℕ) (l : List ℕ) → r ≡ counted (t + n) → n ≤ length l → r ≡ counted (t + length (take (n - 0) l))
-part_taken t n l e k =
-    let z : n ≡ length (take (n - 0) l) = simp length-take (omega (arith, k)) in
-    e ∙ ap (λ (i : ℕ). counted (t + i)) z
+came_start f a b = record { input = []; feed = refl; taken = a; text = b }
 
 module _ {f g : Feed} {t₀ w₀ t w : ℕ} (c : Came f t₀ w₀ t w g) where
+  pub came_taken : t < 18446744073709551616
+  came_taken = rw c.taken (mod-lt (t₀ + length c.input) (lit< tt))
+
+  pub came_written : w < 18446744073709551616
+  came_written = rw c.text (mod-lt (w₀ + length (said f c.input)) (lit< tt))
+
   lines : Numbered f (said f c.input) g
   lines = subst (Numbered f (said f c.input)) (sym c.feed) (numbered f c.input)
 
@@ -73,20 +72,21 @@ module _ {f g : Feed} {t₀ w₀ t w : ℕ} (c : Came f t₀ w₀ t w g) where
       unwritten (c.input ++ y) (length x + n) (taken_more y a) (omega arith) (b ∙ sum_join w₀ w (length x) n c.text) (line_more (take n (all_said g y)) _ k l)
 
   -- a piece more
-  module _ {h : Feed} {piece : List ℕ} {s : Said} {taken : ℕ} (p : PieceTo g piece w s h) (a : taken ≡ counted (t + length piece)) where
-    pub came_more : s.failed ≡ false → Came f t₀ w₀ taken s.written h
-    came_more y =
+  module _ {h : Feed} {piece : List ℕ} {taken written : ℕ} (a : taken ≡ counted (t + length piece)) where
+    pub came_more : PieceTo g piece w (Ok tt) written h → Came f t₀ w₀ taken written h
+    came_more p =
         record {
           input = c.input ++ piece;
-          feed = p.feed y ∙ after_more piece;
+          feed = p.feed refl ∙ after_more piece;
           taken = taken_more piece a;
-          text = text_more (said g piece) _ (said_more piece) (p.text.sum ∙ ap (λ (k : ℕ). counted (w + k)) (p.text.whole y));
+          text = text_more (said g piece) _ (said_more piece) p.text;
         }
 
-    pub came_fail : (error : ℕ) {m : List ℕ} → s.failed ≡ true → Ran f t₀ w₀ (WritingFailed error) s.line taken s.written m
-    came_fail error y =
-        let l : p.text.count < length (said g piece) = p.text.short y in
+    pub came_fail : {s : Halt} {m : List ℕ} → PieceTo g piece w (Err s) written h → Ran f t₀ w₀ (Err s.failure) s.line taken written m
+    came_fail {s} {m} p =
+        let l : p.text.count < length (said g piece) = p.text.short in
         let k : length (all_said g piece) ≡ length (said g piece) + length (last_words (after g piece)) = length-append (said g piece) (last_words (after g piece)) in
         let q : take p.text.count (said g piece) ≡ take p.text.count (all_said g piece) =
         sym (take-append-le p.text.count (said g piece) (last_words (after g piece)) (omega arith)) in
-        came_stop (unwritten piece p.text.count a (omega arith) p.text.sum (p.text.last y ∙ ap (replied_to g.line) q))
+        subst (λ (x : Failure). Ran f t₀ w₀ (Err x) s.line taken written m) (sym p.text.failure)
+        (came_stop (unwritten piece p.text.count a (omega arith) p.text.sum (p.text.last ∙ ap (replied_to g.line) q)))

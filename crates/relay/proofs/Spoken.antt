@@ -1,26 +1,13 @@
 -- Texts written one after another. Assumes nothing.
-use Rattle.std.proofs.Common.{◌≡◌, ℕ, ◌+◌, ◌-◌, ◌<◌, true, false, List, ◌++◌, length, take, sym, refl, ap, ◌∙◌, arith, length-append}
+use Rattle.std.proofs.Common.{◌≡◌, ℕ, ◌+◌, List, ◌++◌, length, take, sym, ap, ◌∙◌, arith, length-append}
 use native.Mathlib.Nat.{mod-add-mod}
 use lib.Seq.{take-append-add, take-append-le}
-use Rattle.lists.proofs.Choice.{true_false}
 use Rattle.feeds.specs.Feed.{Feed}
 use Rattle.descriptors.specs.Came.{newlines}
 use Rattle.descriptors.proofs.Newlines.{newlines_append}
-use Rattle.relay.specs.Spoken.{counted, replied_to, Spoken}
+use Rattle.relay.specs.declared.Halt.{Halt}
+use Rattle.relay.specs.Spoken.{counted, replied_to, Stopped}
 use Rattle.relay.proofs.Lines.{Numbered}
-
-module _ {text : List ℕ} {first before line written : ℕ} (count : ℕ) (sum : written ≡ counted (before + count)) where
-  pub spoken_short : count < length text → line ≡ replied_to first (take count text) → Spoken text first before true line written
-  spoken_short l e = record { count = count; sum = sum; whole = λ y. true_false refl y; short = λ _. l; last = λ _. e }
-
-  -- the bytes are lent as a part of the text, from its start on
-  pub spoken_part : count < length text → line ≡ replied_to first (take (count - 0) text) → Spoken text first before true line written
-  spoken_part l e =
-      let z : count - 0 ≡ count = omega arith in
-      spoken_short l (e ∙ ap (λ (n : ℕ). replied_to first (take n text)) z)
-
-  pub spoken_whole : count ≡ length text → Spoken text first before false line written
-  spoken_whole l = record { count = count; sum = sum; whole = λ _. l; short = λ y. true_false y refl; last = λ y. true_false y refl }
 
 pub replied_by : (line : ℕ) (text : List ℕ) {before n r : ℕ} → before ≡ counted (line + 18446744073709551615) → n ≡ newlines text → r ≡ counted (before + n)
     → r ≡ replied_to line text
@@ -45,13 +32,16 @@ pub sum_join : (before middle x y : ℕ) → middle ≡ counted (before + x) →
 sum_join before middle x y m = ap (λ (k : ℕ). counted (k + y)) m ∙ mod-add-mod (before + x) 18446744073709551616 y ∙ ap counted (omega arith)
 
 -- a text y of which not all was written, after a text x that was, and before a text z
-pub spoken_after : {f g : Feed} {x y : List ℕ} (z : List ℕ) {before middle line written : ℕ} → Numbered f x g → middle ≡ counted (before + length x)
-    → Spoken y g.line middle true line written → Spoken (x ++ (y ++ z)) f.line before true line written
-spoken_after {f} {g} {x} {y} z {before} {middle} n m s =
-    let l : s.count < length y = s.short refl in
+pub stopped_after : {f g : Feed} {x y : List ℕ} (z : List ℕ) {before middle : ℕ} {h : Halt} {written : ℕ} → Numbered f x g → middle ≡ counted (before + length x)
+    → Stopped y g.line middle h written → Stopped (x ++ (y ++ z)) f.line before h written
+stopped_after {f} {g} {x} {y} z {before} {middle} n m s =
     let c : take (length x + s.count) (x ++ (y ++ z)) ≡ x ++ take s.count y =
-    take-append-add x (y ++ z) s.count ∙ ap (λ (k : List ℕ). x ++ k) (take-append-le s.count y z (omega arith)) in
-    spoken_short (length x + s.count)
-    (s.sum ∙ sum_join before middle (length x) s.count m)
-    (simp length-append (omega arith))
-    (s.last refl ∙ replied_join (take s.count y) n ∙ ap (replied_to f.line) (sym c))
+    take-append-add x (y ++ z) s.count ∙ ap (λ (k : List ℕ). x ++ k) (take-append-le s.count y z (omega (arith, s.short))) in
+    record {
+      error = s.error;
+      failure = s.failure;
+      count = length x + s.count;
+      sum = s.sum ∙ sum_join before middle (length x) s.count m;
+      short = simp length-append (omega (arith, s.short));
+      last = s.last ∙ replied_join (take s.count y) n ∙ ap (replied_to f.line) (sym c);
+    }

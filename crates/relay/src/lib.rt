@@ -3,261 +3,191 @@
 // over all of them.
 #![tactic(auto)]
 
-ghost use Rattle.std.specs.Prelude.{◌≡◌, ◌≤◌, [], length};
+ghost use Rattle.std.specs.Prelude.{◌≡◌, ℕ, ◌+◌, ◌^◌, ◌<◌, List, [], length, None, Ok, Err};
 ghost use Rattle.feeds.specs.Feed.{new_feed};
-ghost use Rattle.works.specs.Fed.{feed_by};
-ghost use Rattle.relay.specs.Spoken.{replied_to, Spoken};
-ghost use Rattle.relay.specs.Ran.{PartTo, PieceTo, Ran, Stops, RunTo, RewroteTo};
+ghost use Rattle.relay.specs.Spoken.{counted, replied_to, Spoken};
+ghost use Rattle.relay.specs.Ran.{PieceTo, Ran, how_of, line_of, Stops, RunTo, RewroteTo};
+ghost use Rattle.relay.specs.Relaying.{standing};
 
-use descriptors::Got;
+use descriptors::Stopped;
 use std::io::{Read, Write};
 use works::Work;
 
-// How the work ended: it was done to the end of the input, or a read or a write failed with the error of that number.
-#[derive(Clone, Copy)]
-pub enum How {
-    Answered,
-    ReadingFailed { error: u32 },
-    WritingFailed { error: u32 },
+// Why the work ended before the end of the input: a read or a write failed with the error of that number.
+#[derive(Clone, Copy, PartialEq, Eq)]
+pub enum Failure {
+    Reading { error: u32 },
+    Writing { error: u32 },
 }
 
-// `line` is the last line whose reply was written whole; where lines are written again they are counted as they are written. `taken`
-// counts the bytes read, and `written` those written, a session's header left out.
-#[derive(Clone, Copy)]
+// How the work ended. `line` is the last line whose reply was written whole, 0 before the first; where lines are written again they
+// are counted as they are written. `taken` counts the bytes read, and `written` those written, a session's header left out.
+#[derive(Clone, Copy, PartialEq, Eq)]
 pub struct Ending {
-    pub how: How,
+    pub how: Result<(), Failure>,
     pub line: u64,
     pub taken: u64,
     pub written: u64,
 }
 
-// What became of a text that was to be written: where that failed, the error and the last line whose reply is whole; and how many
-// bytes have been written by now.
+// What ended the work before the end of the input, and the last line whose reply is whole.
 #[derive(Clone, Copy)]
-struct Said {
-    failed: bool,
-    error: u32,
+struct Halt {
+    failure: Failure,
     line: u64,
-    written: u64,
-}
-
-#[derive(Clone, Copy)]
-struct Part {
-    work: Work,
-    used: usize,
-    said: Said,
-}
-
-#[derive(Clone, Copy)]
-struct Piece {
-    work: Work,
-    said: Said,
 }
 
 // The last line whose reply is whole, where `line` is the first that is answered in the text.
 fn replied(line: u64, text: &[u8]) -> u64
     ensures { result ≡ replied_to line text.now }
 {
-    let before = line.wrapping_add(u64::MAX);
+    let before = line.wrapping_sub(1);
     before.wrapping_add(descriptors::newlines_in(text) as u64)
 }
 
-// The text is written. `line` is the first line that is answered in it.
-fn say<W: Write>(to: &mut W, text: &[u8], line: u64, written: u64) -> Said
-    ensures { Spoken text.now line written result.failed result.line result.written }
+// The text is written, and what is written of it counted. `line` is the first line that is answered in it.
+fn say<W: Write>(to: &mut W, text: &[u8], line: u64, written: &mut u64) -> Result<(), Halt>
+    ensures { Spoken text.now line written.old result written.new }
 {
-    let sent = descriptors::send(to, text);
-    let n = sent.count;
-    let w = written.wrapping_add(n as u64);
-    if n < text.len() {
-        return Said {
-            failed: true,
-            error: sent.error,
-            line: replied(line, &text[0..n]),
-            written: w,
-        };
-    }
-    Said {
-        failed: false,
-        error: 0,
-        line: 0,
-        written: w,
-    }
-}
-
-// One feed, and the replies to it.
-fn answer_part<W: Write>(
-    to: &mut W,
-    work: Work,
-    held: &mut [u8; 601],
-    scratch: &mut [u8],
-    input: &[u8],
-    out: &mut [u8],
-    written: u64,
-) -> Part
-    requires { 600 ≤ length out.old }
-    ensures { PartTo (feed_by work held.old scratch.old) input.now written result.used result.said (feed_by result.work held.new scratch.new) }
-{
-    let session = work.session;
-    let line = session.line;
-    let fed = works::feed(work, held, scratch, input, out);
-    let n = fed.written;
-    let after = fed.work;
-    let said = say(to, &out[0..n], line, written);
-    Part {
-        work: after,
-        used: fed.used,
-        said: said,
-    }
-}
-
-// The bytes of one read: they are fed, and the replies written, as often as the replies fill the room for them.
-fn answer_piece<W: Write>(
-    to: &mut W,
-    work: Work,
-    held: &mut [u8; 601],
-    scratch: &mut [u8],
-    input: &[u8],
-    out: &mut [u8],
-    written: u64,
-) -> Piece
-    requires { 600 ≤ length out.old }
-    ensures { PieceTo (feed_by work held.old scratch.old) input.now written result.said (feed_by result.work held.new scratch.new) }
-{
-    let mut doing = work;
-    let mut w = written;
-    let mut from: usize = 0;
-    while from < input.len() {
-        let part = answer_part(to, doing, held, scratch, &input[from..], out, w);
-        let said = part.said;
-        doing = part.work;
-        if said.failed {
-            return Piece {
-                work: doing,
-                said: said,
-            };
+    match descriptors::send(to, text) {
+        Ok(()) => {
+            *written = written.wrapping_add(text.len() as u64);
+            Ok(())
         }
-        w = said.written;
-        from += part.used;
-    }
-    Piece {
-        work: doing,
-        said: Said {
-            failed: false,
-            error: 0,
-            line: 0,
-            written: w,
-        },
+        Err(unsent) => {
+            *written = written.wrapping_add(unsent.count as u64);
+            Err(Halt {
+                failure: Failure::Writing {
+                    error: unsent.error,
+                },
+                line: replied(line, &text[..unsent.count]),
+            })
+        }
     }
 }
 
-// The end of the input: a last line without a newline ends too.
-fn answer_end<W: Write>(
-    to: &mut W,
+// Work on lines: where it stands, with the bytes that it holds of a line; room for what is said; and how many bytes were read and
+// written by now.
+#[derive(Drop)]
+struct Relaying {
     work: Work,
-    held: &[u8; 601],
-    scratch: &mut [u8],
-    out: &mut [u8],
+    held: [u8; 601],
+    out: [u8; 65536],
     taken: u64,
     written: u64,
-) -> Ending
-    requires { 600 ≤ length out.old }
-    ensures ran { Ran (feed_by work held.now scratch.old) taken written result.how result.line result.taken result.written scratch.new }
-    ensures stops { Stops Got.End result.how }
-{
-    let session = work.session;
-    let line = session.line;
-    let n = works::finish(work, held, scratch, out);
-    let said = say(to, &out[0..n], line, written);
-    if said.failed {
-        return Ending {
-            how: How::WritingFailed { error: said.error },
-            line: said.line,
-            taken: taken,
-            written: said.written,
-        };
-    }
-    Ending {
-        how: How::Answered,
-        line: replied(line, &out[0..n]),
-        taken: taken,
-        written: said.written,
-    }
 }
 
-// A read that failed: what is held of a line is no line.
-fn leave(error: u32, line: u64, taken: u64, written: u64) -> Ending
-    ensures { (result.how ≡ How.ReadingFailed error) × (result.line ≡ replied_to line []) × (result.taken ≡ taken) × (result.written ≡ written) }
-{
-    Ending {
-        how: How::ReadingFailed { error: error },
-        line: replied(line, &[]),
-        taken: taken,
-        written: written,
-    }
-}
-
-// A read that brought no bytes: it was at the end of the input, or it failed.
-fn answer_stop<W: Write>(
-    to: &mut W,
-    got: Got,
-    work: Work,
-    held: &[u8; 601],
-    scratch: &mut [u8],
-    out: &mut [u8],
-    taken: u64,
-    written: u64,
-) -> Ending
-    requires { 600 ≤ length out.old }
-    ensures ran { Ran (feed_by work held.now scratch.old) taken written result.how result.line result.taken result.written scratch.new }
-    ensures stops { Stops got result.how }
-{
-    let session = work.session;
-    let line = session.line;
-    match got {
-        Got::End => answer_end(to, work, held, scratch, out, taken, written),
-        Got::Failed { error } => leave(error, line, taken, written),
-        Got::Interrupted => leave(4, line, taken, written),
-        Got::Bytes { count: _ } => leave(0, line, taken, written),
-    }
-}
-
-// Reads to the end of the input. A proved loop has to end, so this one counts its reads, up to a number that no run reaches.
-fn answer_input<R: Read, W: Write>(
-    from: &mut R,
-    to: &mut W,
-    work: Work,
-    held: &mut [u8; 601],
-    scratch: &mut [u8],
-    input: &mut [u8],
-    out: &mut [u8],
-) -> Ending
-    requires { 600 ≤ length out.old }
-    ensures { Ran (feed_by work held.old scratch.old) 0 0 result.how result.line result.taken result.written scratch.new }
-{
-    let mut doing = work;
-    let mut taken = 0u64;
-    let mut w = 0u64;
-    for _ in 0..u64::MAX {
-        let got = descriptors::read_some(from, input);
-        let Got::Bytes { count } = got else {
-            return answer_stop(to, got, doing, held, scratch, out, taken, w);
-        };
-        let piece = answer_piece(to, doing, held, scratch, &input[0..count], out, w);
-        taken = taken.wrapping_add(count as u64);
-        let said = piece.said;
-        if said.failed {
-            return Ending {
-                how: How::WritingFailed { error: said.error },
-                line: said.line,
-                taken: taken,
-                written: said.written,
-            };
+impl Relaying {
+    fn new(work: Work) -> Relaying
+        ensures { (result.work ≡ work) × (result.taken ≡ 0) × (result.written ≡ 0) }
+    {
+        Relaying {
+            work,
+            held: [0; 601],
+            out: [0; 65536],
+            taken: 0,
+            written: 0,
         }
-        doing = piece.work;
-        w = said.written;
     }
-    answer_stop(to, Got::Interrupted, doing, held, scratch, out, taken, w)
+
+    // The bytes of one read: they are fed, and the replies written, as often as the replies fill the room for them.
+    fn answer_piece<W: Write>(
+        &mut self,
+        to: &mut W,
+        scratch: &mut [u8],
+        input: &[u8],
+    ) -> Result<(), Halt>
+        ensures piece { PieceTo (standing self.old scratch.old) input.now self.old.written result self.new.written (standing self.new scratch.new) }
+        ensures taken { self.new.taken ≡ counted (self.old.taken + length input.now) }
+    {
+        self.taken = self.taken.wrapping_add(input.len() as u64);
+        let mut from: usize = 0;
+        // A feed takes as much as it has room for: no iterator knows the step.
+        while from < input.len() {
+            let line = works::line(&self.work);
+            let fed = works::feed(
+                &mut self.work,
+                &mut self.held,
+                scratch,
+                &input[from..],
+                &mut self.out,
+            );
+            say(to, &self.out[..fed.written], line, &mut self.written)?;
+            from += fed.used;
+        }
+        Ok(())
+    }
+
+    // The end of the input: a last line without a newline ends too. The value is the last line whose reply is whole.
+    fn finish<W: Write>(&mut self, to: &mut W, scratch: &mut [u8]) -> Result<u64, Halt>
+        requires { self.old.taken < 2 ^ 64 }
+        ensures ran { Ran (standing self.old scratch.old) self.old.taken self.old.written (how_of result) (line_of result) self.new.taken self.new.written scratch.new }
+        ensures stops { Stops (Ok None) (how_of result) }
+    {
+        let line = works::line(&self.work);
+        let n = works::finish(self.work, &self.held, scratch, &mut self.out);
+        say(to, &self.out[..n], line, &mut self.written)?;
+        Ok(replied(line, &self.out[..n]))
+    }
+
+    // A read that failed: what is held of a line is no line.
+    fn halt(&self, stopped: Stopped) -> Halt
+        ensures line { (scratch : List ℕ) → result.line ≡ replied_to (standing self.now scratch).line [] }
+        ensures stops { Stops (Err stopped) (Err result.failure) }
+    {
+        let error = match stopped {
+            Stopped::Interrupted => descriptors::INTERRUPTED as u32,
+            Stopped::Failed { error } => error,
+        };
+        Halt {
+            failure: Failure::Reading { error },
+            line: replied(works::line(&self.work), &[]),
+        }
+    }
+
+    // Reads to the end of the input. A proved loop has to end, so this one counts its reads, up to a number that no run reaches.
+    fn answer_input<R: Read, W: Write>(
+        &mut self,
+        from: &mut R,
+        to: &mut W,
+        scratch: &mut [u8],
+        room: &mut [u8],
+    ) -> Result<u64, Halt>
+        requires { (self.old.taken ≡ 0) × (self.old.written ≡ 0) }
+        ensures { Ran (standing self.old scratch.old) 0 0 (how_of result) (line_of result) self.new.taken self.new.written scratch.new }
+    {
+        for _ in 0..u64::MAX {
+            match descriptors::read_some(from, room) {
+                Ok(Some(count)) => self.answer_piece(to, scratch, &room[..count])?,
+                Ok(None) => return self.finish(to, scratch),
+                Err(stopped) => return Err(self.halt(stopped)),
+            }
+        }
+        Err(self.halt(Stopped::Interrupted))
+    }
+
+    // How all of it ended.
+    fn run<R: Read, W: Write>(
+        &mut self,
+        from: &mut R,
+        to: &mut W,
+        scratch: &mut [u8],
+        room: &mut [u8],
+    ) -> Ending
+        requires { (self.old.taken ≡ 0) × (self.old.written ≡ 0) }
+        ensures { Ran (standing self.old scratch.old) 0 0 result.how result.line result.taken result.written scratch.new }
+    {
+        let (how, line) = match self.answer_input(from, to, scratch, room) {
+            Ok(line) => (Ok(()), line),
+            Err(halt) => (Err(halt.failure), halt.line),
+        };
+        Ending {
+            how,
+            line,
+            taken: self.taken,
+            written: self.written,
+        }
+    }
 }
 
 // A whole session: a header and the replies go to `to`, for the requests that come from `from`. One read brings at most as many
@@ -270,23 +200,19 @@ pub fn run<R: Read, W: Write>(
 ) -> Ending
     ensures { RunTo (new_feed scratch.old) result.how result.line result.taken result.written scratch.new }
 {
-    let mut held = [0u8; 601];
-    let mut out = [0u8; 65536];
-    let n = replies::put_header(&mut out);
-    let head = descriptors::send(to, &out[0..n]);
-    if head.count < n {
-        return Ending {
-            how: How::WritingFailed { error: head.error },
+    let mut relaying = Relaying::new(Work::Answering(driver::open()));
+    let n = replies::put_header(&mut relaying.out);
+    match descriptors::send(to, &relaying.out[..n]) {
+        Ok(()) => relaying.run(from, to, scratch, room),
+        Err(unsent) => Ending {
+            how: Err(Failure::Writing {
+                error: unsent.error,
+            }),
             line: 0,
             taken: 0,
             written: 0,
-        };
+        },
     }
-    let work = Work {
-        rewrites: false,
-        session: driver::open(),
-    };
-    answer_input(from, to, work, &mut held, scratch, room, &mut out)
 }
 
 // Lines written again: of those that come from `from`, every one that the reader takes goes to `to` as the writer writes it. There
@@ -294,12 +220,6 @@ pub fn run<R: Read, W: Write>(
 pub fn rewrite<R: Read, W: Write>(from: &mut R, to: &mut W, room: &mut [u8]) -> Ending
     ensures { RewroteTo result.how result.line result.taken result.written }
 {
-    let mut held = [0u8; 601];
-    let mut scratch = [0u8; 0];
-    let mut out = [0u8; 65536];
-    let work = Work {
-        rewrites: true,
-        session: driver::open(),
-    };
-    answer_input(from, to, work, &mut held, &mut scratch, room, &mut out)
+    let mut relaying = Relaying::new(Work::Rewriting(rewriting::open()));
+    relaying.run(from, to, &mut [], room)
 }

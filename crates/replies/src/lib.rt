@@ -1,100 +1,67 @@
-// The text of a line's outcome. Each function writes into out from place at on, and returns the place after what it wrote.
+// The text of a line's outcome.
 #![tactic(auto)]
 
-ghost use Rattle.std.specs.Prelude.{◌+◌, ◌≤◌, [], ◌∷◌, ◌++◌, ◌≡◌, length};
-ghost use Rattle.model.specs.Answers.{number as number_of};
-ghost use Rattle.model.specs.Session.{decimal, done_text, value_text, line_text, header};
-ghost use Rattle.digits.specs.Wrote.{Wrote};
+ghost use Rattle.std.specs.Prelude.{◌+◌, ◌≤◌, ◌≡◌, length};
+ghost use Rattle.model.specs.declared.Answer.TheVariants.{Done};
+ghost use Rattle.model.specs.Session.{done_text, request_text, value_text, line_text, header};
+ghost use Rattle.digits.specs.Wrote.{Wrote, HasRoom, Adds};
 
+use digits::Text;
 use model::{Answer, Operation, Request};
 
 // The value of a call that was done: a number, the bytes fetched, or none.
-fn put_done(out: &mut [u8], at: usize, operation: Operation, answer: Answer, moved: &[u8]) -> usize
-    requires { (at + 514 ≤ length out.old) × (length moved.now ≤ 257) }
-    ensures wrote { Wrote out.old at (done_text operation answer moved.now) out.new result }
-    ensures short { result ≤ at + 514 }
+fn put_done(text: &mut Text, operation: &Operation, value: u32, moved: &[u8])
+    requires { HasRoom text.old 514 × (length moved.now ≤ 257) }
+    ensures adds { Adds text.old (done_text operation.now (Done value) moved.now) text.new }
+    ensures short { text.new.at ≤ text.old.at + 514 }
 {
     match operation {
         Operation::Enrol { .. }
         | Operation::Create { .. }
         | Operation::Query { .. }
-        | Operation::Add { .. } => { digits::put_decimal(out, at, answers::value(answer) as u64) }
-        Operation::Fetch { .. } => digits::put_hex(out, at, moved),
-        _ => digits::put_byte(out, at, b'-'),
+        | Operation::Add { .. } => text.put_decimal(u64::from(value)),
+        Operation::Fetch { .. } => text.put_hex(moved),
+        _ => text.put_byte(b'-'),
     }
 }
 
-// A refusal shows the place of the argument that it names, if it names one. A line that is no call has no value.
-fn put_value(
-    out: &mut [u8],
-    at: usize,
-    number: u32,
-    request: Request,
-    answer: Answer,
-    moved: &[u8],
-) -> usize
-    requires { (at + 514 ≤ length out.old) × (length moved.now ≤ 257) × (number ≡ number_of answer) }
-    ensures wrote { Wrote out.old at (value_text (record { request = request; answer = answer; moved = moved.now })) out.new result }
-    ensures short { result ≤ at + 514 }
+// A line that is no call has no value.
+fn put_asked(text: &mut Text, request: &Request, value: u32, moved: &[u8])
+    requires { HasRoom text.old 514 × (length moved.now ≤ 257) }
+    ensures adds { Adds text.old (request_text request.now (Done value) moved.now) text.new }
+    ensures short { text.new.at ≤ text.old.at + 514 }
 {
-    if answers::names_argument(number) {
-        return digits::put_decimal(out, at, answers::value(answer) as u64);
+    match request {
+        Request::Call { call, .. } => put_done(text, &call.operation, value, moved),
+        _ => text.put_byte(b'-'),
     }
-    if number != 0 {
-        return digits::put_byte(out, at, b'-');
-    }
-    let Request::Call { call, length: _ } = request else {
-        return digits::put_byte(out, at, b'-');
-    };
-    let operation = call.operation;
-    put_done(out, at, operation, answer, moved)
 }
 
-// Line number and answer.
-fn put_answer(out: &mut [u8], at: usize, line: u64, number: u32) -> usize
-    requires { at + 41 ≤ length out.old }
-    ensures wrote { Wrote out.old at (decimal line ++ (32 ∷ decimal number)) out.new result }
-    ensures short { result ≤ at + 41 }
+// A refusal shows the place of the argument that it names, if it names one.
+fn put_value(text: &mut Text, request: &Request, answer: Answer, moved: &[u8])
+    requires { HasRoom text.old 514 × (length moved.now ≤ 257) }
+    ensures adds { Adds text.old (value_text (record { request = request.now; answer = answer; moved = moved.now })) text.new }
+    ensures short { text.new.at ≤ text.old.at + 514 }
 {
-    let a = digits::put_decimal(out, at, line);
-    let b = digits::put_byte(out, a, b' ');
-    digits::put_decimal(out, b, number as u64)
-}
-
-// Value and newline.
-fn put_end(
-    out: &mut [u8],
-    at: usize,
-    number: u32,
-    request: Request,
-    answer: Answer,
-    moved: &[u8],
-) -> usize
-    requires { (at + 516 ≤ length out.old) × (length moved.now ≤ 257) × (number ≡ number_of answer) }
-    ensures wrote { Wrote out.old at (32 ∷ value_text (record { request = request; answer = answer; moved = moved.now }) ++ (10 ∷ [])) out.new result }
-    ensures short { result ≤ at + 516 }
-{
-    let c = digits::put_byte(out, at, b' ');
-    let d = put_value(out, c, number, request, answer, moved);
-    digits::put_byte(out, d, b'\n')
+    match answer {
+        Answer::Done { value } => put_asked(text, request, value, moved),
+        Answer::Limit { place, .. } => text.put_decimal(u64::from(place)),
+        _ => text.put_byte(b'-'),
+    }
 }
 
 // Line number, answer and value, parted by one space, and a newline.
-pub fn put_line(
-    out: &mut [u8],
-    at: usize,
-    line: u64,
-    request: Request,
-    answer: Answer,
-    moved: &[u8],
-) -> usize
-    requires { (at + 600 ≤ length out.old) × (length moved.now ≤ 257) }
-    ensures wrote { Wrote out.old at (line_text line (record { request = request; answer = answer; moved = moved.now })) out.new result }
-    ensures short { result ≤ at + 557 }
+pub fn put_line(text: &mut Text, line: u64, request: &Request, answer: Answer, moved: &[u8])
+    requires { HasRoom text.old 600 × (length moved.now ≤ 257) }
+    ensures adds { Adds text.old (line_text line (record { request = request.now; answer = answer; moved = moved.now })) text.new }
+    ensures short { text.new.at ≤ text.old.at + 557 }
 {
-    let number = answers::number(answer);
-    let e = put_answer(out, at, line, number);
-    put_end(out, e, number, request, answer, moved)
+    text.put_decimal(line);
+    text.put_byte(b' ');
+    text.put_decimal(u64::from(answers::number(answer)));
+    text.put_byte(b' ');
+    put_value(text, request, answer, moved);
+    text.put_byte(b'\n');
 }
 
 pub fn put_header(out: &mut [u8]) -> usize

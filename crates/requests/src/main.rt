@@ -6,25 +6,18 @@
 use model::{Answer, Call, Caller, Operation, Request, Right, Settings};
 
 fn asked(guest: u32, operation: Operation, length: u32) -> Request {
-    let call = Call {
-        caller: Caller { guest: guest },
-        operation: operation,
-    };
     Request::Call {
-        call: call,
-        length: length,
+        call: Call {
+            caller: Caller { guest },
+            operation,
+        },
+        length,
     }
 }
 
-fn right_of(n: u32) -> Right {
-    if n == 0 {
-        return Right::Read;
-    }
-    Right::Write
-}
-
-// The calls without a name or data, all of whose numbers are n. A length stands with each: only FETCH has it in its line.
-fn numbered(form: u32, n: u32) -> Request {
+// The calls without a name or data, all of whose numbers are n, and a request that is no line. A length stands with each call: only
+// FETCH has it in its line.
+fn numbered(n: u32) -> [Request; 14] {
     let settings = Settings {
         pages: n,
         allowance: n,
@@ -32,30 +25,24 @@ fn numbered(form: u32, n: u32) -> Request {
         list: n,
         asf: n,
     };
-    match form {
-        0 => Request::Frames { frames: n },
-        1 => asked(n, Operation::Enrol { settings: settings }, n),
-        2 => asked(n, Operation::Destroy { id: n }, n),
-        3 => asked(
+    let right = if n == 0 { Right::Read } else { Right::Write };
+    [
+        Request::Frames { frames: n },
+        asked(n, Operation::Enrol { settings }, n),
+        asked(n, Operation::Destroy { id: n }, n),
+        asked(
             n,
             Operation::Permit {
                 id: n,
                 guest: n,
-                right: right_of(n),
+                right,
             },
             n,
         ),
-        4 => asked(n, Operation::Isolate { id: n }, n),
-        5 => asked(
-            n,
-            Operation::Add {
-                id: n,
-                right: right_of(n),
-            },
-            n,
-        ),
-        6 => asked(n, Operation::Remove { token: n }, n),
-        7 => asked(
+        asked(n, Operation::Isolate { id: n }, n),
+        asked(n, Operation::Add { id: n, right }, n),
+        asked(n, Operation::Remove { token: n }, n),
+        asked(
             n,
             Operation::Load {
                 register: n,
@@ -63,8 +50,8 @@ fn numbered(form: u32, n: u32) -> Request {
             },
             n,
         ),
-        8 => asked(n, Operation::Mode { mode: n }, n),
-        9 => asked(
+        asked(n, Operation::Mode { mode: n }, n),
+        asked(
             n,
             Operation::Fetch {
                 register: n,
@@ -72,9 +59,9 @@ fn numbered(form: u32, n: u32) -> Request {
             },
             n,
         ),
-        10 => asked(n, Operation::Reset, n),
-        11 => asked(n, Operation::Key { key: n }, n),
-        12 => asked(
+        asked(n, Operation::Reset, n),
+        asked(n, Operation::Key { key: n }, n),
+        asked(
             n,
             Operation::Block {
                 id: n,
@@ -84,44 +71,28 @@ fn numbered(form: u32, n: u32) -> Request {
             },
             n,
         ),
-        _ => Request::NotRead,
-    }
+        Request::NotRead,
+    ]
 }
 
 fn create(n: u32, name: u64) -> Request {
-    asked(
-        n,
-        Operation::Create {
-            name: name,
-            pages: n,
-        },
-        0,
-    )
+    asked(n, Operation::Create { name, pages: n }, 0)
 }
 
 fn query(n: u32, name: u64) -> Request {
-    asked(
-        n,
-        Operation::Query {
-            owner: n,
-            name: name,
-        },
-        0,
-    )
+    asked(n, Operation::Query { owner: n, name }, 0)
 }
 
 fn store(n: u32, length: u32) -> Request {
-    asked(
-        n,
-        Operation::Store {
-            register: n,
-            address: n,
-        },
-        length,
-    )
+    let store = Operation::Store {
+        register: n,
+        address: n,
+    };
+    asked(n, store, length)
 }
 
-// A write that fails is passed over: whoever compares the output sees what is missing.
+// A write that fails is passed over: whoever compares the output sees what is missing. These lines are in each program that prints,
+// since a crate of theirs would hold nothing else.
 fn say(rt: &impl Print, text: &[u8]) {
     let _ = rt.write_all(text);
 }
@@ -130,36 +101,21 @@ fn say_number(rt: &impl Print, n: u32) {
     let _ = rt.print(n);
 }
 
-fn is_same(line: &[u8], answer: Answer, again: &[u8]) -> bool {
-    let n = answers::value(answer) as usize;
-    if answers::number(answer) != 0 {
-        return false;
+// The bytes that were written, where they were.
+fn written(answer: Answer, buffer: &[u8]) -> Option<&[u8]> {
+    match answer {
+        Answer::Done { value } => buffer.get(..value as usize),
+        _ => None,
     }
-    if again.len() < n {
-        return false;
-    }
-    line == &again[0..n]
-}
-
-fn is_written_again(line: &[u8], request: Request, bytes: &[u8; 257]) -> bool {
-    let mut again = [0u8; 600];
-    let answer = writing::write(request, bytes, &mut again);
-    is_same(line, answer, &again)
 }
 
 // The line is read, and what was read is written in its turn.
 fn is_read_back(line: &[u8]) -> bool {
     let mut bytes = [0u8; 257];
     let request = lines::read_line(line, &mut bytes);
-    is_written_again(line, request, &bytes)
-}
-
-fn told_back(rt: &impl Print, line: &[u8]) {
-    if is_read_back(line) {
-        say(rt, b" same");
-        return;
-    }
-    say(rt, b" DIFFERS");
+    let mut again = [0u8; 600];
+    let answer = writing::write(request, &bytes, &mut again);
+    written(answer, &again) == Some(line)
 }
 
 fn told(rt: &impl Print, answer: Answer, buffer: &[u8]) {
@@ -169,25 +125,23 @@ fn told(rt: &impl Print, answer: Answer, buffer: &[u8]) {
     say(rt, b" [");
     say(rt, buffer);
     say(rt, b"]");
-    let n = answers::value(answer) as usize;
-    if answers::number(answer) == 0 && n <= buffer.len() {
-        told_back(rt, &buffer[0..n]);
+    if let Some(line) = written(answer, buffer) {
+        if is_read_back(line) {
+            say(rt, b" same");
+        } else {
+            say(rt, b" DIFFERS");
+        }
     }
     say(rt, b"\n");
 }
 
-fn write_and_tell(rt: &impl Print, request: Request, lent: &[u8], buffer: &mut [u8]) {
-    let answer = writing::write(request, lent, buffer);
-    told(rt, answer, buffer);
-}
-
-// The writer's answer, where so much room is lent.
+// The writer's answer, where so much room is lent, which is at most 600 bytes.
 fn show(rt: &impl Print, request: Request, lent: &[u8], room: usize) {
     let mut buffer = [46u8; 600];
-    if 600 < room {
-        return;
+    if let Some(buffer) = buffer.get_mut(..room) {
+        let answer = writing::write(request, lent, buffer);
+        told(rt, answer, buffer);
     }
-    write_and_tell(rt, request, lent, &mut buffer[0..room]);
 }
 
 fn show_names(rt: &impl Print, name: u64) {
@@ -195,15 +149,11 @@ fn show_names(rt: &impl Print, name: u64) {
     show(rt, query(2, name), b"", 24);
 }
 
-fn show_ends(rt: &impl Print, form: u32) {
-    show(rt, numbered(form, 0), b"", 80);
-    show(rt, numbered(form, 4294967295), b"", 80);
-}
-
 // Each call at both ends of its numbers, and a request that is no line.
 fn show_numbers(rt: &impl Print) {
-    for form in 0..14u32 {
-        show_ends(rt, form);
+    for (low, high) in numbered(0).iter().zip(numbered(u32::MAX).iter()) {
+        show(rt, *low, b"", 80);
+        show(rt, *high, b"", 80);
     }
 }
 
@@ -219,9 +169,9 @@ fn show_all_names(rt: &impl Print) {
     show_names(rt, 0x410a422020202020); // a newline
     show_names(rt, 0x410d422020202020); // a carriage return, which the reader takes
     show(rt, create(0, 0x4142434445464748), b"", 40);
-    show(rt, create(4294967295, 0x4142434445464748), b"", 40);
+    show(rt, create(u32::MAX, 0x4142434445464748), b"", 40);
     show(rt, query(0, 0x4142434445464748), b"", 40);
-    show(rt, query(4294967295, 0x4142434445464748), b"", 40);
+    show(rt, query(u32::MAX, 0x4142434445464748), b"", 40);
 }
 
 fn show_data(rt: &impl Print) {
@@ -229,10 +179,10 @@ fn show_data(rt: &impl Print) {
     show(rt, store(0, 0), b"", 20);
     show(rt, store(0, 0), &lent, 20);
     show(rt, store(1, 3), b"\x00\x9a\xff\x01", 20);
-    show(rt, store(4294967295, 3), b"\x00\x9a\xff", 60);
+    show(rt, store(u32::MAX, 3), b"\x00\x9a\xff", 60);
     show(rt, store(1, 257), &lent[0..257], 560);
     show(rt, store(1, 258), &lent[0..258], 600);
-    show(rt, store(1, 4294967295), &lent, 600);
+    show(rt, store(1, u32::MAX), &lent, 600);
     // more than are lent, also where room is short
     show(rt, store(1, 3), b"\x00\x9a", 20);
     show(rt, store(1, 3), b"\x00\x9a", 3);
@@ -242,15 +192,15 @@ fn show_data(rt: &impl Print) {
 // One byte too few, exact, one more; and no room at all.
 fn show_rooms(rt: &impl Print) {
     let lent = [171u8; 300];
-    show(rt, numbered(10, 1), b"", 6);
-    show(rt, numbered(10, 1), b"", 7);
-    show(rt, numbered(10, 1), b"", 8);
+    show(rt, asked(1, Operation::Reset, 1), b"", 6);
+    show(rt, asked(1, Operation::Reset, 1), b"", 7);
+    show(rt, asked(1, Operation::Reset, 1), b"", 8);
     show(rt, store(1, 257), &lent, 525);
     show(rt, store(1, 257), &lent, 526);
-    show(rt, store(4294967295, 257), &lent, 553);
-    show(rt, numbered(0, 8), b"", 0);
+    show(rt, store(u32::MAX, 257), &lent, 553);
+    show(rt, Request::Frames { frames: 8 }, b"", 0);
     show(rt, create(1, 0x2020202020202020), b"", 0);
-    show(rt, numbered(13, 1), b"", 0);
+    show(rt, Request::NotRead, b"", 0);
 }
 
 fn main(rt: HostRuntime) {

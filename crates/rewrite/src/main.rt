@@ -3,6 +3,7 @@
 // the same however long the input is.
 #![tactic(auto)]
 
+// What `session` and `rewrite` share is in relay, failures and arguments; what they do alone, and their texts, stand here.
 fn serve(rt: &HostRuntime) {
     let mut room = [0u8; 65536];
     let end = relay::rewrite(&mut rt.stdin(), &mut rt.stdout(), &mut room);

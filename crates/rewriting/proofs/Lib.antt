@@ -1,6 +1,5 @@
 -- The laws that the proofs of the crate's functions cite, and what a chain of feeds writes.
 pub mod Lent
 pub mod Answers
-pub mod Turned
-pub mod Ending
+pub mod AnySession
 pub mod Whole

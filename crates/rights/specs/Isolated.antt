@@ -1,6 +1,7 @@
 -- What ISOLATE decides on what it has seen: a refusal, or the slot that it closes. It is what the model decides, for every caller
 -- and every sound state which shows this.
-use Rattle.std.specs.Prelude.{ℕ, ◌<◌, true, ◌≡◌}
+use Rattle.std.specs.Prelude.{ℕ, ◌<◌, true, Result, Ok, Err, ◌≡◌}
+use Rattle.model.specs.declared.Answer.{Answer}
 use Rattle.model.specs.declared.Caller.{Caller}
 use Rattle.model.specs.declared.Change.TheVariants.{IsolateSpace}
 use Rattle.model.specs.declared.Operation.TheVariants.{Isolate}
@@ -9,8 +10,6 @@ use Rattle.model.specs.Calls.{judge}
 use Rattle.model.specs.Decision.{Decision, refuse, done}
 use Rattle.model.specs.Replies.{call_of}
 use Rattle.model.specs.SoundTest.{sound}
-use Rattle.lookup.specs.declared.Owned.{Owned}
-use Rattle.lookup.specs.declared.Owned.TheVariants.{At, Refused}
 use Rattle.views.specs.declared.View.{View}
 use Rattle.asks.specs.Asks.{asks_by}
 use Rattle.views.specs.Views.{view_of}
@@ -22,6 +21,6 @@ pub record Closes (v : View) (id slot : ℕ) : Type 0 where
   pub low : slot < 32
   pub decided : IsDecided v id (done (IsolateSpace slot))
 
-abbrev pub IsolatedTo : View → (id : ℕ) → Owned → Type 0
-IsolatedTo v i (Refused a) = IsDecided v i (refuse a)
-IsolatedTo v i (At u) = Closes v i u
+abbrev pub IsolatedTo : View → (id : ℕ) → Result ℕ Answer → Type 0
+IsolatedTo v i (Err a) = IsDecided v i (refuse a)
+IsolatedTo v i (Ok u) = Closes v i u

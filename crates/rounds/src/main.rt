@@ -10,88 +10,55 @@
 // tables and bytes, which both layers share. With no arguments it makes a few rounds of everything.
 #![tactic(auto)]
 
-ghost use Rattle.std.specs.Prelude.{◌≤◌};
-
 mod checked;
 mod inner;
 mod setup;
 mod turn;
 
 use model::State;
-use std::env::FillError;
 use std::rt::Env;
+use turn::Kind;
 
-fn digit(v: u32, b: u8) -> u32 {
-    if b < 48 {
-        return v;
-    }
-    if 57 < b {
-        return v;
-    }
-    v % 100000000 * 10 + (b - 48) as u32
-}
-
+// The number that the digits in a text make: of more than nine, the last nine. What is no digit is passed over.
 fn decimal(text: &[u8]) -> u32 {
-    let mut v = 0u32;
-    for b in text {
-        v = digit(v, *b);
-    }
-    v
-}
-
-// Whether there is an argument at that place.
-fn is_given(rt: &impl Env, k: usize) -> bool {
-    match rt.arg(k, &mut []) {
-        Ok(_) => true,
-        Err(FillError::TooLong) => true,
-        Err(FillError::NotPresent) => false,
-    }
+    text.iter().filter(|b| b.is_ascii_digit()).fold(
+        0,
+        |v: u32, b| v % 100000000 * 10 + u32::from(b.wrapping_sub(b'0')),
+    )
 }
 
 // An argument that is a number; 0 where it is missing.
 fn argument(rt: &impl Env, k: usize) -> u32 {
     let mut text = [0u8; 16];
-    let n = rt.arg(k, &mut text).unwrap_or(0);
-    decimal(&text[..n])
+    match arguments::at(rt, k, &mut text) {
+        Some(n) => decimal(&text[..n]),
+        None => 0,
+    }
 }
 
 // Tables on which the call is done.
-fn tables(scratch: &mut [u8], call: u32, keys: u32) -> State {
-    if call == turn::ENROL {
-        return setup::without_one_guest(scratch, keys);
+fn tables(scratch: &mut [u8], kind: Kind, keys: u32) -> State {
+    match kind {
+        Kind::Enrol => setup::without_one_guest(scratch, keys),
+        Kind::Create | Kind::Add => setup::with_room(scratch, keys),
+        _ => setup::full(scratch, keys),
     }
-    if call == turn::CREATE {
-        return setup::with_room(scratch, keys);
-    }
-    if call == turn::ADD {
-        return setup::with_room(scratch, keys);
-    }
-    setup::full(scratch, keys)
 }
 
+// The layer and the keys come as numbers, and are printed as they came.
 fn rounds(
     s: State,
     scratch: &mut [u8],
     buffer: &mut [u8],
-    call: u32,
+    kind: Kind,
     layer: u32,
     size: u32,
     n: u32,
 ) -> u64 {
     if layer == 0 {
-        return checked::rounds(s, scratch, buffer, call, size, n);
+        return checked::rounds(s, scratch, buffer, kind, size, n);
     }
-    inner::rounds(s, scratch, buffer, call, size, n)
-}
-
-fn least(size: u32, most: usize) -> usize
-    ensures { result ≤ most }
-{
-    let n = size as usize;
-    if most < n {
-        return most;
-    }
-    n
+    inner::rounds(s, scratch, buffer, kind, size, n)
 }
 
 // A write that fails is passed over: whoever compares the output sees what is missing.
@@ -110,12 +77,13 @@ fn run(
     n: u32,
     keys: u32,
 ) {
-    let s = tables(scratch, call, keys);
-    let m = least(size, buffer.len());
-    let sum = rounds(s, scratch, &mut buffer[0..m], call, layer, size, n);
-    put(rt, call as u64, b" ");
-    put(rt, layer as u64, b" ");
-    put(rt, keys as u64, b" ");
+    let kind = Kind::from(call);
+    let s = tables(scratch, kind, keys);
+    let m = buffer.len().min(size as usize);
+    let sum = rounds(s, scratch, &mut buffer[..m], kind, layer, size, n);
+    put(rt, u64::from(call), b" ");
+    put(rt, u64::from(layer), b" ");
+    put(rt, u64::from(keys), b" ");
     put(rt, sum, b"\n");
 }
 
@@ -128,7 +96,7 @@ fn run_all(rt: &impl Print, scratch: &mut [u8], buffer: &mut [u8]) {
 
 // The scratch of 512 frames goes by its type, from which its length is known.
 fn start(rt: &(impl Env + Print), scratch: &mut [u8; 2097152], buffer: &mut [u8; 256]) {
-    if !is_given(rt, 4) {
+    if arguments::at(rt, 4, &mut []).is_none() {
         run_all(rt, scratch, buffer);
         return;
     }

@@ -20,13 +20,11 @@ const SPACE3: u64 = 6003370060464463904;
 
 // The name of one of a guest's data spaces: SPACE and its digit, then two blanks.
 pub(crate) fn name(k: u32) -> u64 {
-    if k == 1 {
-        return SPACE1;
+    match k {
+        1 => SPACE1,
+        2 => SPACE2,
+        _ => SPACE3,
     }
-    if k == 2 {
-        return SPACE2;
-    }
-    SPACE3
 }
 
 fn from(guest: u32, operation: Operation) -> Call {
@@ -125,62 +123,40 @@ fn protect(k: u32) -> Call {
 }
 
 fn call(k: u32) -> Call {
-    if k < 32 {
-        return make(k);
+    match k {
+        0..32 => make(k),
+        32..256 => share(k - 32),
+        256..496 => enter(k - 256),
+        496..504 => from(k - 495, Operation::Mode { mode: 1 }),
+        504..632 => point(k - 504),
+        632..FILLING => put(k - 632),
+        FILLING..1280 => from(k - 1271, Operation::Remove { token: 31 }),
+        1280 => from(8, Operation::Destroy { id: 32 }),
+        _ => protect(k - FREEING),
     }
-    if k < 256 {
-        return share(k - 32);
-    }
-    if k < 496 {
-        return enter(k - 256);
-    }
-    if k < 504 {
-        return from(k - 495, Operation::Mode { mode: 1 });
-    }
-    if k < 632 {
-        return point(k - 504);
-    }
-    if k < 1272 {
-        return put(k - 632);
-    }
-    if k < 1280 {
-        return from(k - 1271, Operation::Remove { token: 31 });
-    }
-    if k == 1280 {
-        return from(8, Operation::Destroy { id: 32 });
-    }
-    protect(k - 1281)
 }
 
-// A guest above the last makes no call.
-fn step(s: State, scratch: &mut [u8], k: u32, last: u32) -> State {
+// Call k; a guest above the last makes none.
+fn step(s: &mut State, scratch: &mut [u8], k: u32, last: u32) {
     let c = call(k);
-    let who = c.caller;
-    if last < who.guest {
-        return s;
+    if c.caller.guest <= last {
+        let mut bytes = [(k % 251) as u8; 256];
+        *s = spaces::serve(*s, scratch, c, &mut bytes).state;
     }
-    let mut bytes = [(k % 251) as u8; 256];
-    let r = spaces::serve(s, scratch, c, &mut bytes);
-    r.state
 }
 
-// The calls from one to before another, by guests up to the last.
-fn after(before: State, scratch: &mut [u8], last: u32, first: u32, end: u32) -> State {
-    let mut s = before;
-    for k in first..end {
-        s = step(s, scratch, k, last);
+// The calls by guests up to the last, of so many; where there are to be keys, they are set last.
+fn made(scratch: &mut [u8], last: u32, calls: u32, keys: u32) -> State {
+    let mut s = spaces::fresh(512).state;
+    for k in 0..calls {
+        step(&mut s, scratch, k, last);
+    }
+    if keys != 0 {
+        for k in FREEING..KEYING {
+            step(&mut s, scratch, k, last);
+        }
     }
     s
-}
-
-// Where there are to be keys, they are set last.
-fn made(scratch: &mut [u8], last: u32, calls: u32, keys: u32) -> State {
-    let r = spaces::fresh(512);
-    let s = after(r.state, scratch, last, 0, calls);
-    if keys == 0 {
-        return s;
-    }
-    after(s, scratch, last, FREEING, KEYING)
 }
 
 // Full tables: 8 guests, 32 spaces, 512 frames used, 224 permits, 240 valid entries.

@@ -1,53 +1,55 @@
 // What the calls of round i are made with. All of it varies by round, and every call is one that is done.
-use model::{Answer, Caller, Reply, Right, Settings};
+use model::{Answer, Caller, Right, Settings, State};
 
-// The numbers of the calls, and of the soundness test; any other number is that of a round that makes no call.
-pub const ENROL: u32 = 1;
+// What a round does: one of the calls, the soundness test alone, or nothing.
+#[derive(Clone, Copy, PartialEq, Eq)]
+pub(crate) enum Kind {
+    Enrol,
+    Create,
+    Destroy,
+    Permit,
+    Isolate,
+    Query,
+    Add,
+    Remove,
+    Load,
+    Mode,
+    Fetch,
+    Store,
+    Reset,
+    Sound,
+    Nothing,
+    Key,
+    Block,
+}
 
-pub const CREATE: u32 = 2;
-
-pub const DESTROY: u32 = 3;
-
-pub const PERMIT: u32 = 4;
-
-pub const ISOLATE: u32 = 5;
-
-pub const QUERY: u32 = 6;
-
-pub const ADD: u32 = 7;
-
-pub const REMOVE: u32 = 8;
-
-pub const LOAD: u32 = 9;
-
-pub const MODE: u32 = 10;
-
-pub const FETCH: u32 = 11;
-
-pub const STORE: u32 = 12;
-
-pub const RESET: u32 = 13;
-
-pub const SOUND: u32 = 14;
-
-pub const KEY: u32 = 16;
-
-pub const BLOCK: u32 = 17;
-
-// SPACE4 and two blanks: a name that no guest has used yet.
-pub const NEW: u64 = 6003370060464529440;
-
-// ENROL, CREATE, DESTROY, STORE and RESET change scratch.
-pub(crate) fn writes(call: u32) -> bool {
-    match call {
-        ENROL => true,
-        CREATE => true,
-        DESTROY => true,
-        STORE => true,
-        RESET => true,
-        _ => false,
+// By the number on the command line; a number that is none of a call's is that of a round that makes no call.
+impl From<u32> for Kind {
+    fn from(number: u32) -> Kind {
+        match number {
+            1 => Kind::Enrol,
+            2 => Kind::Create,
+            3 => Kind::Destroy,
+            4 => Kind::Permit,
+            5 => Kind::Isolate,
+            6 => Kind::Query,
+            7 => Kind::Add,
+            8 => Kind::Remove,
+            9 => Kind::Load,
+            10 => Kind::Mode,
+            11 => Kind::Fetch,
+            12 => Kind::Store,
+            13 => Kind::Reset,
+            14 => Kind::Sound,
+            16 => Kind::Key,
+            17 => Kind::Block,
+            _ => Kind::Nothing,
+        }
     }
 }
+
+// SPACE4 and two blanks: a name that no guest has used yet.
+pub(crate) const NEW: u64 = 6003370060464529440;
 
 pub(crate) fn caller(i: u32) -> Caller {
     Caller { guest: i % 8 + 1 }
@@ -90,9 +92,10 @@ pub(crate) fn other(i: u32) -> u32 {
 
 pub(crate) fn right(i: u32) -> Right {
     if i % 2 == 0 {
-        return Right::Read;
+        Right::Read
+    } else {
+        Right::Write
     }
-    Right::Write
 }
 
 // A token of the caller's list, of which every sequence is still 0.
@@ -122,51 +125,25 @@ pub(crate) fn block(i: u32) -> u32 {
     i / 32 % 16 * 4096
 }
 
-fn byte(x: u8) -> u64 {
-    x as u64
-}
-
-fn wide(x: u32) -> u64 {
-    x as u64
-}
-
-pub(crate) fn plus(a: u64, b: u64) -> u64 {
-    std::num::wrapping_add_u64(a, b)
-}
-
 // What a round adds to the checksum: the number and the value of its answer.
-pub(crate) fn told(a: Answer) -> u64 {
-    plus(wide(spaces::number(a)), wide(spaces::value(a)))
+pub(crate) fn told(answer: Answer) -> u64 {
+    u64::from(spaces::number(answer)).wrapping_add(u64::from(spaces::value(answer)))
 }
 
-// The same of a reply, with an entry of its tables. Which entry varies by round, so that the tables have to be made.
-pub(crate) fn tasted(r: Reply, i: u32) -> u64 {
-    let a = r.answer;
-    let t = r.state;
-    let e = t.entries[(i % 240) as usize];
-    plus(told(a), byte(e.sequence))
-}
-
-// The same of KEY, with the access key that it set.
-pub(crate) fn tasted_key(r: Reply, i: u32) -> u64 {
-    let a = r.answer;
-    let t = r.state;
-    let c = t.cpus[(i % 8) as usize];
-    plus(told(a), byte(c.key))
-}
-
-// The same of BLOCK, with the key of the frame that it set: the spaces' frames are in the order of their identifications.
-pub(crate) fn tasted_cell(r: Reply, i: u32) -> u64 {
-    let a = r.answer;
-    let t = r.state;
-    let b = t.cells[(i % 8 * 64 + i / 8 % 4 * 16 + i / 32 % 16) as usize];
-    plus(told(a), byte(b.key))
+// The same of a call that changes the tables, with an entry of them; of KEY with the access key that it set, and of BLOCK with the key
+// of the frame that it set: the spaces' frames are in the order of their identifications. Which of them it is varies by round, so that
+// the tables have to be made.
+pub(crate) fn tasted(kind: Kind, answer: Answer, s: &State, i: u32) -> u64 {
+    let taste = match kind {
+        Kind::Key => s.cpus[(i % 8) as usize].key,
+        Kind::Block => s.cells[(i % 8 * 64 + i / 8 % 4 * 16 + i / 32 % 16) as usize].key,
+        _ => s.entries[(i % 240) as usize].sequence,
+    };
+    told(answer).wrapping_add(u64::from(taste))
 }
 
 // The same of a fetch, with the last byte that it brought.
-pub(crate) fn brought(a: Answer, buffer: &[u8]) -> u64 {
-    if buffer.len() == 0 {
-        return told(a);
-    }
-    plus(told(a), byte(buffer[buffer.len() - 1]))
+pub(crate) fn brought(answer: Answer, buffer: &[u8]) -> u64 {
+    let last = buffer.last().copied().unwrap_or(0);
+    told(answer).wrapping_add(u64::from(last))
 }

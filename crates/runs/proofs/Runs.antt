@@ -6,7 +6,6 @@ use mathlib.Core.List.{List}
 use mathlib.Core.Path.{◌≡◌, sym, ◌∙◌}
 use native.Mathlib.Decide.{dec_le, ℕ_discrete}
 use native.Mathlib.Omega.{arith}
-use lib.Dec.{ltb}
 use borrow.Author.Tests.{leb-true, ltb-true, le-leb, lt-leb, lt-ltb}
 use Rattle.lists.proofs.Choice.{true_false, not_so, both_left, both_right, both_intro, both_no}
 use Rattle.lists.proofs.Places.{every_at, every_intro, lowest_none, lowest_is}
@@ -23,10 +22,6 @@ end_of x = x.first + x.pages
 
 abbrev meets_space : (f n : ℕ) → Space → Bool
 meets_space f n x = meets f n x.id x.first x.pages
-
--- the end of a space, as code computes it, in a test
-pub before : (f end e : ℕ) → end ≡ e → ltb f end ≡ ltb f e
-before f end e w = rw w
 
 -- the space is live and has one of n frames from f on
 record Meets (f n : ℕ) (x : Space) : Type 0 where

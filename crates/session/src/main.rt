@@ -2,6 +2,7 @@
 // read or a write fails it says so on standard error. The memory that it takes is the same however long the input is.
 #![tactic(auto)]
 
+// What `session` and `rewrite` share is in relay, failures and arguments; what they do alone, and their texts, stand here.
 fn serve(rt: &HostRuntime) {
     let mut scratch = [0u8; 32768];
     let mut room = [0u8; 65536];

@@ -1,21 +1,14 @@
 // From a file to a file, by the loop that the programs use, in reads of 4,096 bytes: a session, and lines written again.
 ghost use Rattle.std.specs.Prelude.{◌≤◌, length};
 
-use relay::{Ending, How};
+use relay::Ending;
 use std::fs;
 use std::io::Read;
 use std::rt::Files;
 
 // All of the input was read, and after a header of so many bytes so many were written in all.
 fn is_whole(end: Ending, size: usize, header: u64, said: usize) -> bool {
-    let how = end.how;
-    let How::Answered = how else {
-        return false;
-    };
-    if end.taken != size as u64 {
-        return false;
-    }
-    end.written.wrapping_add(header) == said as u64
+    end.how.is_ok() && end.taken == size as u64 && end.written.wrapping_add(header) == said as u64
 }
 
 // Reads until the room is full, the input ends or a read fails; how many bytes it brought. It goes by no code that is tested here.
@@ -27,13 +20,10 @@ pub(crate) fn read_full<R: Read>(from: &mut R, room: &mut [u8]) -> usize
         if at == room.len() {
             break;
         }
-        let Ok(count) = from.read(&mut room[at..]) else {
-            break;
-        };
-        if count == 0 {
-            break;
+        match from.read(&mut room[at..]) {
+            Ok(0) | Err(_) => break,
+            Ok(count) => at += count,
         }
-        at += count;
     }
     at
 }
@@ -59,10 +49,7 @@ pub(crate) fn is_same(rt: &impl Files, path: &str, size: usize, want: &[u8]) -> 
     let end = relay::run(&mut from, &mut to, &mut scratch, &mut room);
     drop(from);
     drop(to);
-    if !is_whole(end, size, 18, want.len()) {
-        return false;
-    }
-    holds(rt, "replies", want)
+    is_whole(end, size, 18, want.len()) && holds(rt, "replies", want)
 }
 
 // Whether the lines of a file, written again, are the wanted ones.
@@ -77,8 +64,5 @@ pub(crate) fn is_rewritten(rt: &impl Files, path: &str, size: usize, want: &[u8]
     let end = relay::rewrite(&mut from, &mut to, &mut room);
     drop(from);
     drop(to);
-    if !is_whole(end, size, 0, want.len()) {
-        return false;
-    }
-    holds(rt, "again", want)
+    is_whole(end, size, 0, want.len()) && holds(rt, "again", want)
 }

@@ -6,11 +6,7 @@ use model::Request;
 
 fn is_good(line: &[u8]) -> bool {
     let mut bytes = [0u8; 257];
-    let request = lines::read_line(line, &mut bytes);
-    match request {
-        Request::NotRead => false,
-        _ => true,
-    }
+    lines::read_line(line, &mut bytes) != Request::NotRead
 }
 
 fn append_good(text: &mut [u8], at: usize, line: &[u8]) -> usize
@@ -29,14 +25,8 @@ pub(crate) fn good_lines(input: &[u8], text: &mut [u8]) -> usize
     ensures { result ≤ length text.old }
 {
     let mut at: usize = 0;
-    let mut i: usize = 0;
-    while i < input.len() {
-        let e = feeds::line_end(input, i);
-        at = append_good(text, at, &input[i..e]);
-        if e == input.len() {
-            return at;
-        }
-        i = e + 1;
+    for line in input.split(|b| *b == b'\n') {
+        at = append_good(text, at, line);
     }
     at
 }

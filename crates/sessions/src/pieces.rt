@@ -3,10 +3,12 @@ ghost use Rattle.std.specs.Prelude.{◌<◌, ◌≤◌, length};
 
 use driver::Session;
 
-// Where a run stands: the session, and how many bytes of text it has said.
-#[derive(Clone, Copy)]
+// Where a run stands: the session with what it holds and its scratch, and how many bytes of text it has said.
+#[derive(Drop)]
 struct Run {
     session: Session,
+    held: [u8; 601],
+    scratch: [u8; 32768],
     at: usize,
 }
 
@@ -22,104 +24,58 @@ pub(crate) fn append(text: &mut [u8], at: usize, part: &[u8]) -> usize
     at + part.len()
 }
 
-// A run begins with the header.
-fn begin(text: &mut [u8]) -> Run
-    requires { 18 ≤ length text.old }
-    ensures { result.at ≤ length text.old }
-{
-    Run {
-        session: driver::open(),
-        at: replies::put_header(text),
+impl Run {
+    // A run begins with the header.
+    fn begin(text: &mut [u8]) -> Run
+        requires { 18 ≤ length text.old }
+        ensures { result.at ≤ length text.old }
+    {
+        Run {
+            session: driver::open(),
+            held: [0; 601],
+            scratch: [165; 32768],
+            at: replies::put_header(text),
+        }
+    }
+
+    // A piece of input: it is fed, and the replies taken from the room, until all of it has been taken.
+    fn feed(&mut self, input: &[u8], room: &mut [u8], text: &mut [u8])
+        requires { (600 ≤ length room.old) × (self.old.at ≤ length text.old) }
+        ensures { self.new.at ≤ length text.old }
+    {
+        let mut from: usize = 0;
+        while from < input.len() {
+            let fed = driver::feed(
+                &mut self.session,
+                &mut self.held,
+                &mut self.scratch,
+                &input[from..],
+                room,
+            );
+            self.at = append(text, self.at, &room[..fed.written]);
+            from += fed.used;
+        }
+    }
+
+    // The end of the input; the length of the whole text.
+    fn end(&mut self, room: &mut [u8], text: &mut [u8]) -> usize
+        requires { (600 ≤ length room.old) × (self.old.at ≤ length text.old) }
+        ensures { result ≤ length text.old }
+    {
+        let n = driver::finish(self.session, &self.held, &mut self.scratch, room).unwrap_or(0);
+        append(text, self.at, &room[..n])
     }
 }
 
-// A piece of input: it is fed, and the replies taken from the room, until all of it has been taken.
-fn feed_piece(
-    run: Run,
-    held: &mut [u8; 601],
-    scratch: &mut [u8],
-    input: &[u8],
-    room: &mut [u8],
-    text: &mut [u8],
-) -> Run
-    requires { (600 ≤ length room.old) × (run.at ≤ length text.old) }
-    ensures { result.at ≤ length text.old }
-{
-    let mut session = run.session;
-    let mut at = run.at;
-    let mut from: usize = 0;
-    while from < input.len() {
-        let fed = driver::feed(session, held, scratch, &input[from..], room);
-        session = fed.session;
-        let n = fed.written;
-        at = append(text, at, &room[0..n]);
-        from += fed.used;
-    }
-    Run {
-        session: session,
-        at: at,
-    }
-}
-
-// The input in pieces of one byte.
-fn feed_bytes(
-    run: Run,
-    held: &mut [u8; 601],
-    scratch: &mut [u8],
-    input: &[u8],
-    room: &mut [u8],
-    text: &mut [u8],
-) -> Run
-    requires { (600 ≤ length room.old) × (run.at ≤ length text.old) }
-    ensures { result.at ≤ length text.old }
-{
-    let mut r = run;
-    let mut i: usize = 0;
-    while i < input.len() {
-        let e = i + 1;
-        r = feed_piece(r, held, scratch, &input[i..e], room, text);
-        i = e;
-    }
-    r
-}
-
-// The end of the input; the length of the whole text.
-fn end(run: Run, held: &[u8; 601], scratch: &mut [u8], room: &mut [u8], text: &mut [u8]) -> usize
-    requires { (600 ≤ length room.old) × (run.at ≤ length text.old) }
-    ensures { result ≤ length text.old }
-{
-    let last = driver::finish(run.session, held, scratch, room);
-    let n = last.written;
-    append(text, run.at, &room[0..n])
-}
-
-// The input in two pieces, the first of `cut` bytes.
-fn feed_cut(
-    run: Run,
-    held: &mut [u8; 601],
-    scratch: &mut [u8],
-    input: &[u8],
-    cut: usize,
-    room: &mut [u8],
-    text: &mut [u8],
-) -> Run
-    requires { (cut ≤ length input.now) × (600 ≤ length room.old) × (run.at ≤ length text.old) }
-    ensures { result.at ≤ length text.old }
-{
-    let half = feed_piece(run, held, scratch, &input[0..cut], room, text);
-    feed_piece(half, held, scratch, &input[cut..], room, text)
-}
-
-// A whole run with the input in two pieces; the length of its text.
+// A whole run with the input in two pieces, the first of `cut` bytes; the length of its text.
 fn run_cut(input: &[u8], cut: usize, room: &mut [u8], text: &mut [u8]) -> usize
     requires { (cut ≤ length input.now) × (600 ≤ length room.old) × (18 ≤ length text.old) }
     ensures { result ≤ length text.old }
 {
-    let mut held = [0u8; 601];
-    let mut scratch = [165u8; 32768];
-    let start = begin(text);
-    let whole = feed_cut(start, &mut held, &mut scratch, input, cut, room, text);
-    end(whole, &held, &mut scratch, room, text)
+    let mut run = Run::begin(text);
+    run.feed(&input[..cut], room, text);
+    run.feed(&input[cut..], room, text);
+    run.end(room, text)
 }
 
 // A whole run with the input byte by byte.
@@ -127,11 +83,11 @@ fn run_bytes(input: &[u8], room: &mut [u8], text: &mut [u8]) -> usize
     requires { (600 ≤ length room.old) × (18 ≤ length text.old) }
     ensures { result ≤ length text.old }
 {
-    let mut held = [0u8; 601];
-    let mut scratch = [165u8; 32768];
-    let start = begin(text);
-    let whole = feed_bytes(start, &mut held, &mut scratch, input, room, text);
-    end(whole, &held, &mut scratch, room, text)
+    let mut run = Run::begin(text);
+    for byte in input.chunks(1) {
+        run.feed(byte, room, text);
+    }
+    run.end(room, text)
 }
 
 // The input in one piece, with much room; the length of the text.
@@ -144,80 +100,58 @@ pub(crate) fn run_whole(input: &[u8], text: &mut [u8]) -> usize
 }
 
 // How far apart the places are at which an input is cut.
-pub(crate) fn cut_step(size: usize) -> usize
+fn cut_step(size: usize) -> usize
     ensures { (0 < result) × (result ≤ 101) }
 {
-    if size <= 3000 {
-        return 1;
-    }
-    101
+    if size <= 3000 { 1 } else { 101 }
 }
 
+// An input here is far shorter than the sum's range.
 pub(crate) fn cut_count(size: usize) -> usize {
-    if size <= 3000 {
-        return size + 1;
-    }
-    size / 101 + 1
+    (size / cut_step(size)).wrapping_add(1)
 }
 
 fn is_same_cut(input: &[u8], cut: usize, want: &[u8], room: &mut [u8], text: &mut [u8]) -> bool
     requires { (cut ≤ length input.now) × (600 ≤ length room.old) × (18 ≤ length text.old) }
 {
     let n = run_cut(input, cut, room, text);
-    &text[0..n] == want
+    text[..n] == want[..]
 }
 
-// The first place, by steps, at which a cut makes the output another; above the length where there is none.
-fn bad_cut_from(input: &[u8], step: usize, want: &[u8], room: &mut [u8], text: &mut [u8]) -> usize
-    requires { (0 < step) × (step ≤ 101) × (600 ≤ length room.old) × (18 ≤ length text.old) }
-{
-    let mut cut: usize = 0;
-    while cut <= input.len() {
-        if !is_same_cut(input, cut, want, room, text) {
-            return cut;
-        }
-        cut += step;
-    }
-    cut
-}
-
-pub(crate) fn first_bad_cut(input: &[u8], step: usize, want: &[u8]) -> usize
-    requires { (0 < step) × (step ≤ 101) }
-{
+// The first place, by steps, at which a cut makes the output another.
+pub(crate) fn first_bad_cut(input: &[u8], want: &[u8]) -> Option<usize> {
     let mut room = [0u8; 65536];
     let mut text = [0u8; 65536];
-    bad_cut_from(input, step, want, &mut room, &mut text)
+    let step = cut_step(input.len());
+    for cut in (0..=input.len()).step_by(step) {
+        if !is_same_cut(input, cut, want, &mut room, &mut text) {
+            return Some(cut);
+        }
+    }
+    None
 }
 
 pub(crate) fn is_same_by_bytes(input: &[u8], want: &[u8]) -> bool {
     let mut room = [0u8; 600];
     let mut text = [0u8; 65536];
     let n = run_bytes(input, &mut room, &mut text);
-    &text[0..n] == want
+    text[..n] == want[..]
 }
 
 fn is_same_in_room(input: &[u8], want: &[u8], size: usize, text: &mut [u8]) -> bool
     requires { (600 ≤ size) × (size ≤ 1300) × (18 ≤ length text.old) }
 {
     let mut room = [0u8; 1300];
-    is_same_cut(input, 0, want, &mut room[0..size], text)
+    is_same_cut(input, 0, want, &mut room[..size], text)
 }
 
-// The smallest room, by steps of a hundred, that makes the output another; above 1300 where there is none.
-fn bad_room_from(input: &[u8], want: &[u8], text: &mut [u8]) -> usize
-    requires { 18 ≤ length text.old }
-{
-    let mut size: usize = 600;
-    while size <= 1300 {
-        if !is_same_in_room(input, want, size, text) {
-            return size;
-        }
-        size += 100;
-    }
-    size
-}
-
-pub(crate) fn first_bad_room(input: &[u8], want: &[u8]) -> usize {
+// The smallest room, by steps of a hundred from 600 to 1300, that makes the output another.
+pub(crate) fn first_bad_room(input: &[u8], want: &[u8]) -> Option<usize> {
     let mut text = [0u8; 65536];
-    bad_room_from(input, want, &mut text)
+    for size in (600..=1300).step_by(100) {
+        if !is_same_in_room(input, want, size, &mut text) {
+            return Some(size);
+        }
+    }
+    None
 }

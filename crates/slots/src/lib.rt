@@ -1,7 +1,7 @@
-// One slot of the table of spaces: whether it is live, whose space it holds, and of what name.
-#![tactic(auto)]
+// One slot of the table of spaces: whether it is live, whose space it holds, of what name, and where its frames end.
+#![tactic(auto, unfolding(lists::specs::Choice::both))]
 
-ghost use Rattle.std.specs.Prelude.{◌≡◌, eqb};
+ghost use Rattle.std.specs.Prelude.{◌+◌, ◌≡◌, eqb};
 ghost use Rattle.model.specs.Names.{base_name};
 ghost use Rattle.model.specs.Searches.{is_space, is_owned, is_named, is_data};
 ghost use Rattle.model.specs.Tables.{live};
@@ -17,29 +17,19 @@ pub fn is_live(x: Space) -> bool
 pub fn is_space(x: Space, id: u32) -> bool
     ensures { result ≡ is_space id x }
 {
-    if !is_live(x) {
-        return false;
-    }
-    x.id == id
+    is_live(x) && x.id == id
 }
 
 pub fn is_owned(x: Space, owner: u32) -> bool
     ensures { result ≡ is_owned owner x }
 {
-    if x.id == 0 {
-        return false;
-    }
-    let o = x.owner as u32;
-    o == owner
+    is_live(x) && u32::from(x.owner) == owner
 }
 
 pub fn is_named(x: Space, owner: u32, name: u64) -> bool
     ensures { result ≡ is_named owner name x }
 {
-    if !is_owned(x, owner) {
-        return false;
-    }
-    x.name == name
+    is_owned(x, owner) && x.name == name
 }
 
 // A primary space is its owner's space named BASE; its other spaces are data spaces.
@@ -52,8 +42,12 @@ pub fn is_base(x: Space) -> bool
 pub fn is_data(x: Space, owner: u32) -> bool
     ensures { result ≡ is_data owner x }
 {
-    if !is_owned(x, owner) {
-        return false;
-    }
-    !is_base(x)
+    is_owned(x, owner) && !is_base(x)
+}
+
+// The frame after the last one of a space.
+pub fn end(x: &Space) -> u32
+    ensures { result ≡ x.now.first + x.now.pages }
+{
+    u32::from(x.first) + u32::from(x.pages)
 }

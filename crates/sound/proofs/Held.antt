@@ -1,4 +1,5 @@
--- What owning a state tells of it. Assumes nothing.
+-- What owning a state tells of it. The soundness test reads a state that it is lent, of which its passes tell the same; the
+-- theorem stands for callers that own one. Assumes nothing.
 use Prim.Native.Nat.{ℕ, zero, suc, ◌<◌}
 use mathlib.Core.List.{List, [], ◌∷◌}
 use mathlib.Core.Path.{◌≡◌}

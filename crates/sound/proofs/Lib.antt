@@ -4,3 +4,4 @@ pub mod SlotLoop
 pub mod Counts
 pub mod GuestLoop
 pub mod Whole
+pub mod Kept

@@ -3,12 +3,14 @@ use Prim.Native.Nat.{ℕ, ◌+◌, ◌-◌, ◌≤◌, ◌<◌}
 use mathlib.Core.Bool.{Bool, true, false}
 use mathlib.Core.List.{List}
 use mathlib.Core.Logic.{⊎_elim}
-use mathlib.Core.Path.{◌≡◌, refl, sym, ap, ◌∙◌}
+use mathlib.Core.Path.{◌≡◌, sym, ap, ◌∙◌}
 use native.Mathlib.Omega.{arith}
 use lib.Dec.{leb, ltb}
+use lib.ListN.{length}
+use Rattle.std.specs.Prelude.{Some, None}
 use borrow.Author.Tests.{leb-true}
 use Rattle.lists.specs.Choice.{choose, both}
-use Rattle.lists.proofs.Choice.{true_false, true_or_false, both_left, both_right, both_no}
+use Rattle.lists.proofs.Choice.{true_or_false, both_left, both_right, both_no}
 use Rattle.model.specs.declared.Guest.{Guest}
 use Rattle.model.specs.declared.Space.{Space}
 use Rattle.model.specs.Names.{good_name}
@@ -42,12 +44,12 @@ slot_is r f n gs x at e p =
     ∙ ap (λ k. slot_with f n (guest_on gs k) x) e
     ∙ ap (λ b. choose (live x) (both b (both (leb 1 x.pages) (both (leb (x.first + x.pages) f) (both (ltb x.id n) (good_name x.name))))) (dead_test x)) (owned_is gs x)
 
--- what the loop over the slots leaves
-module _ (f n : ℕ) (gs : List Guest) (ss : List Space) (ts : List ℕ) (i : ℕ) (t : Left (slots_test f n gs ss) (λ u. slot_test f n gs (space_at ss u)) i 32) where
-  pub slots_stop : i < 32 → slot_test f n gs (space_at ss i) ≡ false → Slots false f n gs ss ts
-  slots_stop l e = record { test = left_stop _ _ i 32 t l e; column = λ z. true_false z refl; owners = λ z. true_false z refl }
+-- what the loop over the slots gives
+module _ (f n : ℕ) (gs : List Guest) (ss : List Space) (ls : length ss ≡ 32) (lg : length gs ≡ 8) (i : ℕ) (t : Left (slots_test f n gs ss) (λ u. slot_test f n gs (space_at ss u)) i 32) where
+  pub slots_stop : i < 32 → slot_test f n gs (space_at ss i) ≡ false → Slots None f n gs ss
+  slots_stop l e = record { spaces = ls; guests = lg; test = left_stop _ _ i 32 t l e; tags = tt }
 
-  pub slots_done : 32 ≤ i → Filling ts (tag_at ss) 32 i → Slots true f n gs ss ts
-  slots_done l h =
+  pub slots_done : (ts : List ℕ) → 32 ≤ i → Filling ts (tag_at ss) 32 i → Slots (Some ts) f n gs ss
+  slots_done ts l h =
       let c = fill_end ts (tag_at ss) 32 i 32 l h in
-      record { test = left_done _ _ i 32 t l; column = λ _. c; owners = λ _. tag_owners f n gs ss ts (left_true _ _ i 32 t l) c }
+      record { spaces = ls; guests = lg; test = left_done _ _ i 32 t l; tags = record { column = c; owners = tag_owners f n gs ss ts (left_true _ _ i 32 t l) c } }

@@ -2,3 +2,4 @@
 pub mod Elements
 pub mod Columns
 pub mod Held
+pub mod Answered

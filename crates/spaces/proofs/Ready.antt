@@ -2,8 +2,10 @@
 use Prim.Native.Nat.{ℕ}
 use mathlib.Core.Bool.{Bool, true, false}
 use mathlib.Core.List.{List, []}
-use mathlib.Core.Path.{◌≡◌}
+use mathlib.Core.Logic.{⊎_elim}
+use mathlib.Core.Path.{◌≡◌, refl}
 use lib.ListN.{length}
+use Rattle.lists.proofs.Choice.{true_or_false}
 use Rattle.model.specs.declared.Answer.{Answer}
 use Rattle.model.specs.declared.Answer.TheVariants.{Unsound}
 use Rattle.model.specs.declared.Call.{Call}
@@ -13,9 +15,11 @@ use Rattle.model.specs.declared.Reply.{Reply}
 use Rattle.model.specs.declared.State.{State}
 use Rattle.model.specs.Calls.{ready, judge}
 use Rattle.model.specs.Leaves.{scratch_judged, buffer_judged}
+use Rattle.sound.specs.declared.Sound.{Sound}
+use Rattle.sound.specs.Answered.{Answered}
 use Rattle.model.specs.Promise.{Promise, step_of}
 use Rattle.model.specs.Replies.{reply, replied, call_of, Carried}
-use Rattle.calls.proofs.Ready.{refuses, serves}
+use Rattle.calls.proofs.Ready.{refuses, serves, serves_at}
 use Rattle.deciding.proofs.Served.{still, cleared, asked, fetched, stored}
 use Rattle.deciding.proofs.Touches.{touch, LeavesTables, LeavesScratch, LeavesBuffer, Unmoving}
 
@@ -24,22 +28,29 @@ pub refuses_with : (s : State) (k : Call) (m b : List ℕ) (x : Bool) (r : Reply
     → Promise (step_of s m k b) r.answer r.state m b
 refuses_with s k m b x r e f q = rw q (refuses s k m b x e f)
 
+-- what a call answers where it was lent, for the state that its caller owns
+pub told : {p q x y : Sound} {s t : State} {k : Call} {a : Answer} → p ≡ x → q ≡ y → x.state.now ≡ s → y.state.now ≡ t → Answered p k a q → reply a t ≡ replied s (judge s k 0)
+told e f g h d = rw (← h, ← g, ← f, ← e) d.reply
+
+-- a call on the state alone, behind check 1
+pub checks : (s : State) (c : Caller) (k : Operation) (m : List ℕ) (r : Reply) → Unmoving (touch k) → LeavesScratch (touch k) → LeavesBuffer (touch k)
+    → (ready s (length m) ≡ false → r ≡ reply Unsound s) → (ready s (length m) ≡ true → reply r.answer r.state ≡ replied s (judge s (call_of c k) 0))
+    → Promise (step_of s m (call_of c k) []) r.answer r.state m []
+checks s c k m r u ls lb fails passes =
+    ⊎_elim (λ t. serves s (call_of c k) m [] m [] r _ refl t (still s c k m [] u ls lb r (passes t))) (λ f. refuses_with s (call_of c k) m [] _ r refl f (fails f))
+    (true_or_false (ready s (length m)))
+
 -- check 1 passes: the single calls, by what each touches
 module _ (s : State) (c : Caller) (k : Operation) (m : List ℕ) (x : Bool) where
-  -- tables alone
-  pub changes_tables : Unmoving (touch k) → LeavesScratch (touch k) → LeavesBuffer (touch k) → (r : Reply) → x ≡ ready s (length m) → x ≡ true
-      → r ≡ replied s (judge s (call_of c k) 0) → Promise (step_of s m (call_of c k) []) r.answer r.state m []
-  changes_tables u ls lb r e t q = serves s (call_of c k) m [] m [] r x e t (still s c k m [] u ls lb r q)
-
   -- nothing: an answer alone
   pub asks : Unmoving (touch k) → LeavesTables (touch k) → LeavesScratch (touch k) → LeavesBuffer (touch k) → (a : Answer) → x ≡ ready s (length m) → x ≡ true
       → a ≡ (judge s (call_of c k) 0).answer → Promise (step_of s m (call_of c k) []) a s m []
   asks u lt ls lb a e t q = serves s (call_of c k) m [] m [] (reply a s) x e t (asked s c k m [] u lt ls lb a q)
 
-  -- tables and frames
-  pub clears : Unmoving (touch k) → LeavesBuffer (touch k) → (r : Reply) (m' : List ℕ) → x ≡ ready s (length m) → x ≡ true
-      → Carried s (judge s (call_of c k) 0) r m m' → Promise (step_of s m (call_of c k) []) r.answer r.state m' []
-  clears u lb r m' e t q = serves s (call_of c k) m [] m' [] r x e t (cleared s c k m [] u lb r m' q)
+  -- tables and frames; the state that the caller owns is what the call has left where it was lent
+  pub clears : Unmoving (touch k) → LeavesBuffer (touch k) → (a : Answer) (t v : State) (m' : List ℕ) → x ≡ ready s (length m) → x ≡ true
+      → Carried s (judge s (call_of c k) 0) (reply a v) m m' → v ≡ t → Promise (step_of s m (call_of c k) []) a t m' []
+  clears u lb a t v m' e h q is = serves_at s (call_of c k) m [] m' [] a t v x e h (cleared s c k m [] u lb (reply a v) m' q) is
 
   -- bytes moved
   pub fetches : LeavesTables (touch k) → LeavesScratch (touch k) → (b b' : List ℕ) (a : Answer) → x ≡ ready s (length m) → x ≡ true

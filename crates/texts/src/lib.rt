@@ -1,28 +1,29 @@
-// The text of one field of a line, by its kind: what `fields` reads back. Kinds are as `forms` numbers them.
+// The text of one field of a line, by its kind: what `fields` reads back.
 #![tactic(auto)]
 
-ghost use Rattle.std.specs.Prelude.{◌+◌, ◌≤◌, true, [], ◌∷◌, ◌≡◌, length};
+ghost use Rattle.std.specs.Prelude.{◌+◌, true, [], ◌∷◌, ◌≡◌, length};
 ghost use Rattle.model.specs.Written.{right_text, field_text, takes_field};
-ghost use Rattle.digits.specs.Wrote.{Wrote};
+ghost use Rattle.digits.specs.Wrote.{HasRoom, Adds};
+ghost use Rattle.fields.specs.Fields.{kind_of};
 ghost use Rattle.forms.specs.Sizes.{most_of};
-ghost use Rattle.forms.specs.Tables.{kind_of};
+
+use digits::Text;
+use forms::Kind;
 
 // Whether the reader would take a field: any number, any right.
-pub fn takes_field(kind: u64, value: u64, lent: &[u8]) -> bool
+#[tactic(auto, unfolding(model::specs::Written::takes_field, lists::specs::Choice::both))]
+pub fn takes_field(kind: Kind, value: u64, lent: &[u8]) -> bool
     ensures { result ≡ takes_field (kind_of kind) value lent.now }
 {
-    if kind == 4 {
-        if 257 < value {
-            return false;
-        }
-        return value <= lent.len() as u64;
+    match kind {
+        Kind::Number | Kind::Right => true,
+        Kind::Name => letters::takes_name(value),
+        Kind::Data => value <= 257 && value <= lent.len() as u64,
     }
-    if kind == 2 {
-        return letters::takes_name(value);
-    }
-    true
 }
 
+// Any number but 0 is a write, as in `right_text` of the model.
+#[tactic(auto, unfolding(model::specs::Written::right_text, lists::specs::Choice::choose))]
 fn right_letter(value: u64) -> u8
     ensures { result ∷ [] ≡ right_text value }
 {
@@ -32,28 +33,26 @@ fn right_letter(value: u64) -> u8
     b'W'
 }
 
-fn put_field(out: &mut [u8], at: usize, kind: u64, value: u64, lent: &[u8]) -> usize
-    requires { (at + most_of (kind_of kind) ≤ length out.old) × (takes_field (kind_of kind) value lent.now ≡ true) }
-    ensures { Wrote out.old at (field_text (kind_of kind) value lent.now) out.new result }
+#[tactic(auto, unfolding(forms::specs::Sizes::most_of, model::specs::Written::field_text))]
+fn put_field(text: &mut Text, kind: Kind, value: u64, lent: &[u8])
+    requires room { HasRoom text.old (most_of (kind_of kind)) }
+    requires taken { takes_field (kind_of kind) value lent.now ≡ true }
+    ensures { Adds text.old (field_text (kind_of kind) value lent.now) text.new }
 {
-    if kind == 4 {
-        let n = value as usize;
-        return digits::put_hex(out, at, &lent[0..n]);
+    match kind {
+        Kind::Number => text.put_decimal(value),
+        Kind::Name => letters::put_name(text, value),
+        Kind::Right => text.put_byte(right_letter(value)),
+        Kind::Data => text.put_hex(&lent[..value as usize]),
     }
-    if kind == 2 {
-        return letters::put_name(out, at, value);
-    }
-    if kind <= 1 {
-        return digits::put_decimal(out, at, value);
-    }
-    digits::put_byte(out, at, right_letter(value))
 }
 
 // A tab, and the field behind it.
-pub fn put_next(out: &mut [u8], at: usize, kind: u64, value: u64, lent: &[u8]) -> usize
-    requires { (at + (1 + most_of (kind_of kind)) ≤ length out.old) × (takes_field (kind_of kind) value lent.now ≡ true) }
-    ensures { Wrote out.old at (9 ∷ field_text (kind_of kind) value lent.now) out.new result }
+pub fn put_next(text: &mut Text, kind: Kind, value: u64, lent: &[u8])
+    requires room { HasRoom text.old (1 + most_of (kind_of kind)) }
+    requires taken { takes_field (kind_of kind) value lent.now ≡ true }
+    ensures { Adds text.old (9 ∷ field_text (kind_of kind) value lent.now) text.new }
 {
-    let next = digits::put_byte(out, at, b'\t');
-    put_field(out, next, kind, value, lent)
+    text.put_byte(b'\t');
+    put_field(text, kind, value, lent);
 }

@@ -1,8 +1,8 @@
 -- What follows translation, on the space that was reached: the checks 17, 18 and 22, and the bytes moved. The bytes of a space
 -- lie in one run of scratch. That this is what paper 01 says is proved in access proofs/Moved.
-use Rattle.std.specs.Prelude.{ℕ, ◌+◌, ◌*◌, ◌≤◌, Bool, true, false, List, leb, length}
+use Rattle.std.specs.Prelude.{ℕ, ◌+◌, ◌*◌, ◌≤◌, Bool, true, false, List, leb, length, Result, Ok, Err}
 use Rattle.lists.specs.Bytes.{over, part}
-use Rattle.lists.specs.Choice.{choose}
+use Rattle.lists.specs.Choice.{choose, implies}
 use Rattle.model.specs.declared.Answer.{Answer}
 use Rattle.model.specs.declared.Answer.TheVariants.{Done, Addressing, Protection, KeyProtection}
 use Rattle.model.specs.declared.Right.{Right}
@@ -22,6 +22,10 @@ inside x a n = leb (a + n) (x.pages * frame_size)
 
 abbrev pub place_in : Space → (address : ℕ) → ℕ
 place_in x a = x.first * frame_size + a
+
+-- where in scratch an access begins that passes, where `storing` tells a store from a fetch; else what refuses it
+unfoldable pub placed : Space → Right → Guard → (storing : Bool) → (address length : ℕ) → Result ℕ Answer
+placed x r g w a n = choose (inside x a n) (choose (implies w (writes r)) (choose (guard_allows g w a n) (Ok (place_in x a)) (Err KeyProtection)) (Err Protection)) (Err Addressing)
 
 unfoldable pub fetch_answer : Space → Guard → (address length : ℕ) → Answer
 fetch_answer x g a n = choose (inside x a n) (choose (guard_allows g false a n) (Done 0) KeyProtection) Addressing

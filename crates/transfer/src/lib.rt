@@ -2,77 +2,78 @@
 #![tactic(auto)]
 
 ghost use Rattle.std.specs.Prelude.{◌≤◌, ◌≡◌, length};
-ghost use Rattle.transfer.specs.Transferred.{RunIn, inside, place_in, fetch_answer, fetched, store_answer, stored};
-ghost use Rattle.model.specs.Calls.{writes as writes_by};
+ghost use Rattle.transfer.specs.Transferred.{RunIn, placed, fetch_answer, fetched, store_answer, stored};
 
 use keys::Guard;
 use model::{Answer, Right, Space};
 
-// Address and length are added in 64 bits, where their sum does not wrap.
-fn fits(x: Space, address: u32, length: usize) -> bool
+// The checks, and where in scratch the first byte lies. `storing` is a Boolean as in `keys::permits`. Address and length are added in
+// 64 bits, where their sum does not wrap.
+#[tactic(auto, using(std::proofs::lemmas::Bool::Decides::nat_tests), unfolding(crate::specs::Transferred::placed, model::specs::Calls::writes, lists::specs::Choice::implies, lists::specs::Choice::choose))]
+fn place_of(
+    x: &Space,
+    right: Right,
+    guard: &Guard,
+    storing: bool,
+    address: u32,
+    length: usize,
+) -> Result<usize, Answer>
     requires { length ≤ 256 }
-    ensures { result ≡ inside x address length }
+    ensures { result ≡ placed x.now right guard.now storing address length }
 {
     let end = address as usize + length;
-    end <= x.pages as usize * 4096
+    if end > usize::from(x.pages) * 4096 {
+        return Err(Answer::Addressing);
+    }
+    if storing && right != Right::Write {
+        return Err(Answer::Protection);
+    }
+    if !keys::permits(guard, storing, address, length) {
+        return Err(Answer::KeyProtection);
+    }
+    Ok(usize::from(x.first) * 4096 + address as usize)
 }
 
-// Where in scratch the byte at an address of a space lies.
-fn place_of(x: Space, address: u32) -> usize
-    ensures { result ≡ place_in x address }
+// A fetch from the space that was reached: whoever reaches it may read.
+pub fn fetch_from(
+    x: &Space,
+    guard: &Guard,
+    scratch: &[u8],
+    address: u32,
+    buffer: &mut [u8],
+) -> Answer
+    requires { (length buffer.old ≤ 256) × (RunIn x.now scratch.now) }
+    ensures value { result ≡ fetch_answer x.now guard.now address (length buffer.old) }
+    ensures buffer_after { buffer.new ≡ fetched x.now guard.now address scratch.now buffer.old }
 {
-    x.first as usize * 4096 + address as usize
-}
-
-fn writes(r: Right) -> bool
-    ensures { result ≡ writes_by r }
-{
-    match r {
-        Right::Read => false,
-        Right::Write => true,
+    match place_of(x, Right::Read, guard, false, address, buffer.len()) {
+        Ok(place) => {
+            moves::fill(buffer, &scratch[place..]);
+            Answer::Done { value: 0 }
+        }
+        Err(refusal) => refusal,
     }
 }
 
-// A fetch from the space that was reached.
-pub fn fetch_from(x: Space, guard: Guard, scratch: &[u8], address: u32, buffer: &mut [u8]) -> Answer
-    requires { (length buffer.old ≤ 256) × (RunIn x scratch.now) }
-    ensures value { result ≡ fetch_answer x guard address (length buffer.old) }
-    ensures buffer_after { buffer.new ≡ fetched x guard address scratch.now buffer.old }
-{
-    if !fits(x, address, buffer.len()) {
-        return Answer::Addressing;
-    }
-    if !keys::permits(guard, false, address, buffer.len()) {
-        return Answer::KeyProtection;
-    }
-    let place = place_of(x, address);
-    moves::fill(buffer, &scratch[place..]);
-    Answer::Done { value: 0 }
-}
-
+// What a fetch and a store share is `place_of`: they differ in what is lent.
 // A store to the space that was reached: the part of scratch from the address's place on is lent to the byte writer.
 pub fn store_to(
-    x: Space,
+    x: &Space,
     right: Right,
-    guard: Guard,
+    guard: &Guard,
     scratch: &mut [u8],
     address: u32,
     bytes: &[u8],
 ) -> Answer
-    requires { (length bytes.now ≤ 256) × (RunIn x scratch.old) }
-    ensures value { result ≡ store_answer x right guard address (length bytes.now) }
-    ensures scratch_after { scratch.new ≡ stored x right guard address scratch.old bytes.now }
+    requires { (length bytes.now ≤ 256) × (RunIn x.now scratch.old) }
+    ensures value { result ≡ store_answer x.now right guard.now address (length bytes.now) }
+    ensures scratch_after { scratch.new ≡ stored x.now right guard.now address scratch.old bytes.now }
 {
-    if !fits(x, address, bytes.len()) {
-        return Answer::Addressing;
+    match place_of(x, right, guard, true, address, bytes.len()) {
+        Ok(place) => {
+            moves::put(&mut scratch[place..], bytes);
+            Answer::Done { value: 0 }
+        }
+        Err(refusal) => refusal,
     }
-    if !writes(right) {
-        return Answer::Protection;
-    }
-    if !keys::permits(guard, true, address, bytes.len()) {
-        return Answer::KeyProtection;
-    }
-    let place = place_of(x, address);
-    moves::put(&mut scratch[place..], bytes);
-    Answer::Done { value: 0 }
 }

@@ -1,26 +1,21 @@
 -- Translation on what it reads is the translation of paper 01. Assumes nothing.
-use Prim.Native.Nat.{ℕ, ◌+◌, ◌-◌, ◌*◌, ◌≤◌}
-use mathlib.Core.Bool.{true, false, not}
+use Prim.Native.Nat.{ℕ, ◌+◌, ◌-◌, ◌*◌}
+use mathlib.Core.Bool.{false, not}
 use mathlib.Core.Logic.{◌≢◌}
-use mathlib.Core.Path.{◌≡◌, refl, sym, ap, ◌∙◌}
+use mathlib.Core.Path.{◌≡◌, refl, ap}
+use Rattle.std.specs.Prelude.{Err}
 use lib.Dec.{leb, eqb}
 use lib.ListN.{get_or}
-use borrow.Author.Tests.{le-leb, eq-eqb, eqb-true, eqb-false}
+use borrow.Author.Tests.{le-leb, eqb-true, eqb-false}
 use Rattle.lists.specs.Choice.{choose, both}
-use Rattle.lists.proofs.Choice.{yes!, choose_eq, both_intro, both_not}
-use Rattle.entries.specs.Assigned.{assigned_to}
+use Rattle.lists.proofs.Choice.{yes!, choose_eq, both_intro}
 use Rattle.model.specs.declared.Answer.TheVariants.{AlenTranslation}
-use Rattle.model.specs.declared.Entry.{Entry}
 use Rattle.model.specs.declared.Right.TheVariants.{Write}
-use Rattle.model.specs.declared.Standing.{Standing}
-use Rattle.model.specs.declared.Standing.TheVariants.{Unused, Valid, Revoked}
 use Rattle.model.specs.declared.State.{State}
-use Rattle.model.specs.declared.Translation.{Translation}
-use Rattle.model.specs.declared.Translation.TheVariants.{Reached, Refused}
 use Rattle.model.specs.Searches.{primary_slot, is_unused}
 use Rattle.model.specs.Tables.{guest_at, no_guest, unused_entry}
 use Rattle.model.specs.Tokens.{malformed, assigned, entry_number, upper_half}
-use Rattle.model.specs.Translation.{through_standing, translate}
+use Rattle.model.specs.Translation.{Translation, reaches, through_standing, translate}
 use Rattle.model.proofs.Tokens.{formed}
 use Rattle.translation.specs.Translated.{token_place, translated_by}
 
@@ -36,20 +31,7 @@ pub translated_is : (s : State) (g k t h : ℕ) → k ≡ g - 1 → (t ≡ 0 →
 unfolding translated_by translate assigned
 translated_is s g k t h q o =
     rw q
-    (choose_eq (eqb t 0) (λ z. ap (λ u. Reached u Write) (o (eqb-true t 0 z))) (λ z.
+    (choose_eq (eqb t 0) (λ z. ap (λ u. reaches u Write) (o (eqb-true t 0 z))) (λ z.
     choose_eq (malformed t) (λ _. refl) (λ f.
-    ap (λ p. let e = get_or s.entries p unused_entry in choose (not (both (leb (entry_number t) ((guest_at s.guests g).list + 1)) (both (not (is_unused e.standing)) (eqb e.sequence (upper_half t))))) (Refused AlenTranslation) (through_standing e.standing))
+    ap (λ p. let e = get_or s.entries p unused_entry in choose (not (both (leb (entry_number t) ((guest_at s.guests g).list + 1)) (both (not (is_unused e.standing)) (eqb e.sequence (upper_half t))))) (Err AlenTranslation) (through_standing e.standing))
     (named_place (g - 1) t (eqb-false t 0 z) f))))
-
--- an entry of the list with the token's sequence: if it is unused, both ways refuse alike
-pub through_list : (x : Translation) (e : Entry) (l t : ℕ) → entry_number t ≤ l + 1 → e.sequence ≡ upper_half t → x ≡ through_standing e.standing
-    → x ≡ choose (not (assigned_to e l t)) (Refused AlenTranslation) (through_standing e.standing)
-unfolding choose both is_unused through_standing
-through_list x e l t h q p = p ∙ sym (rw (le-leb (entry_number t) (l + 1) h, eq-eqb e.sequence (upper_half t) q) (go e.standing))
-  where
-    go : (a : Standing) → choose (not (both true (both (not (is_unused a)) true))) (Refused AlenTranslation) (through_standing a) ≡ through_standing a
-    go Unused = refl
-    go (Valid u r) = refl
-    go Revoked = refl
-
-pub ruleset translation = (through_list, both_not)

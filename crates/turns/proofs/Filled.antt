@@ -1,9 +1,8 @@
 -- The buffer that the reader has filled for a request, and the part of it that a call has. Assumes nothing.
-use Prim.Native.Nat.{ℕ, min, ◌-◌, ◌≤◌}
+use Prim.Native.Nat.{ℕ, min, ◌≤◌}
 use mathlib.Core.Bool.{Bool, true, false}
 use mathlib.Core.List.{List, []}
 use mathlib.Core.Path.{◌≡◌, refl, subst, sym, ap, ◌∙◌}
-use native.Mathlib.Nat.{sub-zero}
 use native.Mathlib.Omega.{arith}
 use lib.ListN.{length, take, replicate, length-take, length-replicate}
 use Rattle.lists.specs.Bytes.{over}
@@ -18,11 +17,9 @@ use Rattle.model.specs.declared.Request.{Request}
 use Rattle.model.specs.declared.Request.TheVariants.{Call as Asked}
 use Rattle.model.specs.Classes.{Moves, no_bytes, from_space, to_space, stores_bytes, class_of}
 use Rattle.model.specs.Lines.{stores, length_of}
-use Rattle.model.specs.Session.{filled, buffer_for, line_text}
-use Rattle.digits.specs.Wrote.{Wrote}
-use Rattle.turns.specs.declared.Outcome.{Outcome}
+use Rattle.model.specs.Session.{filled, buffer_for}
 use Rattle.model.specs.Parts.{data_in}
-use Rattle.turns.specs.Taken.{Prepared, buffer_length, outcome_of}
+use Rattle.turns.specs.Taken.{Prepared, buffer_length}
 
 -- it has 257 bytes
 data_most : (q : Request) (b : List ℕ) → (stores q ≡ true → length_of q ≤ 257) → length (data_in q b) ≤ 257
@@ -41,6 +38,9 @@ prepared_long q b p =
 -- so a call's part lies in it
 pub part_within : (q : Request) (b : List ℕ) (n : ℕ) → Prepared q b → n ≤ 257 → n ≤ length b
 part_within q b n p l = omega (arith, prepared_long q b p)
+
+pub part_long : (q : Request) (b : List ℕ) (n : ℕ) → Prepared q b → n ≤ 257 → n ≡ length (take n b)
+part_long q b n p l = omega (arith, length-take n b, prepared_long q b p)
 
 -- a request that does not store has no data
 pub unstoring : (q : Request) (b : List ℕ) → stores q ≡ false → data_in q b ≡ []
@@ -100,8 +100,3 @@ module _ (o : Operation) (n : ℕ) where
 
 pub length_most : (x n : ℕ) → x ≡ min n 257 → x ≤ 257
 length_most x n e = omega arith
-
--- The reply, of the bytes that were moved as they are lent.
-pub tell_moved : (o : Outcome) (b out out' : List ℕ) (at number p : ℕ)
-    → Wrote out at (line_text number (record { request = o.request; answer = o.answer; moved = take (o.moved - 0) b })) out' p → Wrote out at (line_text number (outcome_of o b)) out' p
-tell_moved o b out out' at number p w = rw (sub-zero o.moved) at w

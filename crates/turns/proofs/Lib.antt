@@ -1,5 +1,4 @@
 pub mod Usable
 pub mod Filled
 pub mod Carried
-pub mod Seen
-pub mod Changing
+pub mod Turned

@@ -1,12 +1,10 @@
 -- Check 1 of a session: the first frames of the lent scratch are the machine's. Assumes nothing.
-use Prim.Native.Nat.{ℕ, ◌+◌, ◌-◌, ◌*◌, ◌≤◌}
+use Prim.Native.Nat.{ℕ, ◌+◌, ◌*◌, ◌≤◌}
 use mathlib.Core.Bool.{Bool, true}
 use mathlib.Core.List.{List, ◌++◌}
 use mathlib.Core.Path.{◌≡◌, sym, ap, ◌∙◌}
-use native.Mathlib.Nat.{sub-zero}
 use native.Mathlib.Omega.{arith}
 use lib.ListN.{length, take, drop, length-append}
-use lib.Seq.{length-take-le}
 use borrow.Author.Tests.{leb-true, le-leb}
 use Rattle.lists.specs.Bytes.{over}
 use Rattle.lists.specs.Choice.{both}
@@ -34,9 +32,6 @@ module _ (s : State) (m : List ℕ) (x : Bool) (e : x ≡ usable s (length m)) (
 
   pub usable_room : s.frames * 4096 ≤ length m
   usable_room = leb-true _ _ (both_right (sound s) _ holds)
-
-  pub usable_part : length (take (s.frames * 4096 - 0) m) ≡ s.frames * 4096
-  usable_part = ap (λ k. length (take k m)) (sub-zero (s.frames * 4096)) ∙ length-take-le (s.frames * 4096) m usable_room
 
 -- it holds of what a ready machine is put back into
 pub usable_back : (s : State) (m x : List ℕ) → Ready (record { tables = s; scratch = x }) → usable s (length (over m 0 x)) ≡ true

@@ -1,16 +1,12 @@
 -- What becomes of one request: the session after it, and its outcome.
-use Rattle.std.specs.Prelude.{ℕ, min, ◌≤◌, Bool, true, List, [], ◌≡◌, length, take, replicate}
+use Rattle.std.specs.Prelude.{ℕ, min, ◌≤◌, true, List, ◌≡◌, length, take, replicate}
 use Rattle.lists.specs.Bytes.{over}
-use Rattle.model.specs.declared.Call.{Call}
 use Rattle.model.specs.declared.Request.{Request}
-use Rattle.model.specs.declared.Request.TheVariants as request
 use Rattle.model.specs.Classes.{Moves, no_bytes, from_space, to_space}
 use Rattle.model.specs.Lines.{stores, length_of}
 use Rattle.model.specs.Parts.{data_in}
-use Rattle.model.specs.Session.{Session, LineOutcome, Turn, request_turn}
-use Rattle.deciding.specs.Decisions.{AsksWhole}
+use Rattle.model.specs.Session.{Session, LineOutcome, Turn}
 use Rattle.ready.specs.Usable.{usable}
-use Rattle.turns.specs.declared.Changed.{Changed}
 use Rattle.turns.specs.declared.Host.{Host}
 use Rattle.turns.specs.declared.Outcome.{Outcome}
 
@@ -39,28 +35,3 @@ pub record Taken (t : Turn) (o : Outcome) (b : List ℕ) (h : Host) (m : List �
   pub session : session_of h m ≡ t.after
   pub outcome : outcome_of o b ≡ t.outcome
   pub ready : h.ready ≡ usable h.state (length m)
-
--- Requests on whole tables.
--- what one that is not answered yet finds: a call finds a host that check 1 holds of, and asks for whole tables; what is not
--- read never waits
-abbrev pub Waiting : (begun ready : Bool) → Request → Type 0
-Waiting b r (request.Frames count) = Unit {0}
-Waiting b r (request.Call k size) = (b ≡ true) × (r ≡ true) × AsksWhole k.operation
-Waiting b r request.NotRead = ⊥
-
--- the call k waits
-pub record CallWaits (h : Host) (room : ℕ) (q : Request) (k : Call) : Type 0 where
-  pub size : ℕ
-  pub asked : q ≡ request.Call k size
-  pub begun : h.begun ≡ true
-  pub ready : h.ready ≡ true
-  pub asks : AsksWhole k.operation
-  pub usable : h.ready ≡ usable h.state room
-
-abbrev pub host_after : Changed → Host
-host_after r = record { begun = r.begun; ready = r.ready; state = r.state }
-
--- the request has been carried out, whatever stands in its buffer
-pub record ChangedTo (h : Host) (m : List ℕ) (q : Request) (r : Changed) (m' : List ℕ) : Type 0 where
-  pub unmoved : r.outcome.moved ≡ 0
-  pub taken : (b : List ℕ) → Taken (request_turn (session_of h m) q []) r.outcome b (host_after r) m'

@@ -3,21 +3,16 @@
 // is destroyed, the bytes of its frame are the same too.
 #![tactic(auto)]
 
-use model::{Call, Caller, Operation, Right, Settings, State};
+use model::{Answer, Call, Caller, Operation, Right, Settings, State};
 
-fn call(guest: u32, operation: Operation) -> Call {
-    let caller = Caller { guest: guest };
-    Call {
-        caller: caller,
-        operation: operation,
-    }
-}
+const TEMP: u64 = 0x54454d5020202020;
 
-fn temp() -> u64 {
-    0x54454d5020202020
-}
+const ONE: Caller = Caller { guest: 1 };
 
-// A write that fails is passed over: whoever compares the output sees what is missing.
+const TWO: Caller = Caller { guest: 2 };
+
+// A write that fails is passed over: whoever compares the output sees what is missing. These lines are in each program that prints,
+// since a crate of theirs would hold nothing else.
 fn say(rt: &impl Print, text: &[u8]) {
     let _ = rt.write_all(text);
 }
@@ -26,109 +21,136 @@ fn print(rt: &impl Print, n: u32) {
     let _ = print!(rt; " {n}");
 }
 
-fn print_byte(rt: &impl Print, b: u8) {
-    print(rt, b as u32);
+// The tables and the scratch that each call leaves for the next.
+#[derive(Drop)]
+struct Run {
+    state: State,
+    scratch: [u8; 16384],
 }
 
-// A call with no buffer: its answer and value, and the tables after it.
-fn ask(
-    rt: &impl Print,
-    s: State,
-    scratch: &mut [u8; 16384],
-    guest: u32,
-    operation: Operation,
-) -> State {
-    let mut none = [0u8; 0];
-    let r = spaces::serve(s, scratch, call(guest, operation), &mut none);
-    let a = r.answer;
-    print(rt, spaces::number(a));
-    print(rt, spaces::value(a));
-    say(rt, b"\n");
-    r.state
-}
+impl Run {
+    fn serve(&mut self, caller: Caller, operation: Operation, buffer: &mut [u8]) -> Answer {
+        let r = spaces::serve(
+            self.state,
+            &mut self.scratch,
+            Call { caller, operation },
+            buffer,
+        );
+        self.state = r.state;
+        r.answer
+    }
 
-// A fetch or store through register 1: its answer, and the buffer after it.
-fn transfer(
-    rt: &impl Print,
-    s: State,
-    scratch: &mut [u8; 16384],
-    guest: u32,
-    operation: Operation,
-    buffer: &mut [u8; 2],
-) -> State {
-    let r = spaces::serve(s, scratch, call(guest, operation), buffer);
-    let a = r.answer;
-    print(rt, spaces::number(a));
-    print_byte(rt, buffer[0]);
-    print_byte(rt, buffer[1]);
-    say(rt, b"\n");
-    r.state
-}
+    // A call with no buffer: its answer and value.
+    fn ask(&mut self, rt: &impl Print, caller: Caller, operation: Operation) {
+        let answer = self.serve(caller, operation, &mut []);
+        print(rt, spaces::number(answer));
+        print(rt, spaces::value(answer));
+        say(rt, b"\n");
+    }
 
-fn fetch(rt: &impl Print, s: State, scratch: &mut [u8; 16384]) -> State {
-    let mut buffer = [9u8; 2];
-    say(rt, b"FETCH by guest 2:");
-    transfer(
-        rt,
-        s,
-        scratch,
-        2,
-        Operation::Fetch {
+    // A fetch or store through register 1: its answer, and the buffer after it.
+    fn transfer(
+        &mut self,
+        rt: &impl Print,
+        caller: Caller,
+        operation: Operation,
+        mut buffer: [u8; 2],
+    ) {
+        let answer = self.serve(caller, operation, &mut buffer);
+        print(rt, spaces::number(answer));
+        for b in buffer {
+            print(rt, u32::from(b));
+        }
+        say(rt, b"\n");
+    }
+
+    fn fetch(&mut self, rt: &impl Print) {
+        say(rt, b"FETCH by guest 2:");
+        let fetch = Operation::Fetch {
             register: 1,
             address: 0,
-        },
-        &mut buffer,
-    )
-}
+        };
+        self.transfer(rt, TWO, fetch, [9; 2]);
+    }
 
-fn store(rt: &impl Print, s: State, scratch: &mut [u8; 16384], first: u8, second: u8) -> State {
-    let mut bytes = [first, second];
-    say(rt, b"STORE by guest 1:");
-    transfer(
-        rt,
-        s,
-        scratch,
-        1,
-        Operation::Store {
+    fn store(&mut self, rt: &impl Print, bytes: [u8; 2]) {
+        say(rt, b"STORE by guest 1:");
+        let store = Operation::Store {
             register: 1,
             address: 0,
-        },
-        &mut bytes,
-    )
+        };
+        self.transfer(rt, ONE, store, bytes);
+    }
+
+    // Guest 1 isolates space 3, and guest 2's fetch is refused; guest 1 destroys it. Then the bytes of its frame that were stored.
+    fn withdraw(&mut self, rt: &impl Print) {
+        say(rt, b"ISOLATE by guest 1:");
+        self.ask(rt, ONE, Operation::Isolate { id: 3 });
+        self.fetch(rt);
+        say(rt, b"DESTROY by guest 1:");
+        self.ask(rt, ONE, Operation::Destroy { id: 3 });
+        say(rt, b"frame 2:");
+        print(rt, u32::from(self.scratch[8192]));
+        print(rt, u32::from(self.scratch[8193]));
+        say(rt, b"\n");
+    }
+
+    // Guest 2 gets its frame in a space of its own, and fetches from there.
+    fn take_frame(&mut self, rt: &impl Print) {
+        say(rt, b"REMOVE by guest 2:");
+        self.ask(rt, TWO, Operation::Remove { token: 2 });
+        say(rt, b"CREATE by guest 2:");
+        let create = Operation::Create {
+            name: TEMP,
+            pages: 1,
+        };
+        self.ask(rt, TWO, create);
+        say(rt, b"ADD by guest 2:");
+        let add = Operation::Add {
+            id: 4,
+            right: Right::Read,
+        };
+        self.ask(rt, TWO, add);
+        say(rt, b"LOAD by guest 2:");
+        let load = Operation::Load {
+            register: 1,
+            value: 65538,
+        };
+        self.ask(rt, TWO, load);
+        self.fetch(rt);
+    }
 }
 
-// A guest in access-register mode with token 2 in register 1.
-fn ready_guest(s: State, scratch: &[u8], guest: u32) -> State {
-    let a = spaces::mode(s, scratch, Caller { guest: guest }, 1);
-    let b = spaces::load(a.state, scratch, Caller { guest: guest }, 1, 2);
-    b.state
+// A guest in access-register mode with token 2 in register 1. The state goes by value, as the public face takes it; likewise below.
+fn ready_guest(s: State, scratch: &[u8], caller: Caller) -> State {
+    let a = spaces::mode(s, scratch, caller, 1);
+    spaces::load(a.state, scratch, caller, 1, 2).state
 }
 
 fn settings(share: u32) -> Settings {
     Settings {
         pages: 1,
         allowance: 2,
-        share: share,
+        share,
         list: 4,
         asf: 1,
     }
 }
 
 // Two guests with a primary each, and space 3 of guest 1.
-fn spaces_made(scratch: &mut [u8; 16384]) -> State {
+fn spaces_made(scratch: &mut [u8]) -> State {
     let r = spaces::fresh(4);
-    let a = spaces::enrol(r.state, scratch, Caller { guest: 1 }, settings(1));
-    let b = spaces::enrol(a.state, scratch, Caller { guest: 2 }, settings(0));
-    let c = spaces::create(b.state, scratch, Caller { guest: 1 }, temp(), 1);
-    c.state
+    let a = spaces::enrol(r.state, scratch, ONE, settings(1));
+    let b = spaces::enrol(a.state, scratch, TWO, settings(0));
+    spaces::create(b.state, scratch, ONE, TEMP, 1).state
 }
 
 // Guest 1 has added space 3 for writing; guest 2 is permitted to read it, and has added it.
 fn shared(before: State, scratch: &[u8]) -> State {
-    let b = spaces::permit(before, scratch, Caller { guest: 1 }, 3, 2, Right::Read);
-    let c = spaces::add(b.state, scratch, Caller { guest: 1 }, 3, Right::Write);
-    let d = spaces::add(c.state, scratch, Caller { guest: 2 }, 3, Right::Read);
-    ready_guest(ready_guest(d.state, scratch, 1), scratch, 2)
+    let b = spaces::permit(before, scratch, ONE, 3, 2, Right::Read);
+    let c = spaces::add(b.state, scratch, ONE, 3, Right::Write);
+    let d = spaces::add(c.state, scratch, TWO, 3, Right::Read);
+    ready_guest(ready_guest(d.state, scratch, ONE), scratch, TWO)
 }
 
 fn start() -> State {
@@ -137,79 +159,23 @@ fn start() -> State {
     shared(spaces_made(&mut made_in), &scratch)
 }
 
-// The bytes of space 3's frame that were stored.
-fn told_frame(rt: &impl Print, scratch: &[u8; 16384]) {
-    say(rt, b"frame 2:");
-    print_byte(rt, scratch[8192]);
-    print_byte(rt, scratch[8193]);
-    say(rt, b"\n");
-}
-
-// Guest 1 isolates space 3, and guest 2's fetch is refused; guest 1 destroys it.
-fn withdraw(rt: &impl Print, before: State, scratch: &mut [u8; 16384]) -> State {
-    say(rt, b"ISOLATE by guest 1:");
-    let a = ask(rt, before, scratch, 1, Operation::Isolate { id: 3 });
-    let b = fetch(rt, a, scratch);
-    say(rt, b"DESTROY by guest 1:");
-    let c = ask(rt, b, scratch, 1, Operation::Destroy { id: 3 });
-    told_frame(rt, scratch);
-    c
-}
-
-// Guest 2 gets its frame in a space of its own, and fetches from there.
-fn take_frame(rt: &impl Print, before: State, scratch: &mut [u8; 16384]) -> State {
-    say(rt, b"REMOVE by guest 2:");
-    let a = ask(rt, before, scratch, 2, Operation::Remove { token: 2 });
-    say(rt, b"CREATE by guest 2:");
-    let b = ask(
-        rt,
-        a,
+fn show(rt: &impl Print, scratch: [u8; 16384], bytes: [u8; 2]) {
+    let mut run = Run {
+        state: start(),
         scratch,
-        2,
-        Operation::Create {
-            name: temp(),
-            pages: 1,
-        },
-    );
-    say(rt, b"ADD by guest 2:");
-    let c = ask(
-        rt,
-        b,
-        scratch,
-        2,
-        Operation::Add {
-            id: 4,
-            right: Right::Read,
-        },
-    );
-    say(rt, b"LOAD by guest 2:");
-    let d = ask(
-        rt,
-        c,
-        scratch,
-        2,
-        Operation::Load {
-            register: 1,
-            value: 65538,
-        },
-    );
-    fetch(rt, d, scratch)
-}
-
-fn run(rt: &impl Print, scratch: &mut [u8; 16384], first: u8, second: u8) {
-    let a = fetch(rt, start(), scratch);
-    let b = store(rt, a, scratch, first, second);
-    let c = fetch(rt, b, scratch);
-    let d = withdraw(rt, c, scratch);
-    take_frame(rt, d, scratch);
+    };
+    run.fetch(rt);
+    run.store(rt, bytes);
+    run.fetch(rt);
+    run.withdraw(rt);
+    run.take_frame(rt);
 }
 
 fn main(rt: HostRuntime) {
-    let mut zeros = [0u8; 16384];
+    let mut scratch = [0u8; 16384];
     say(&rt, b"first run\n");
-    run(&rt, &mut zeros, 1, 2);
-    let mut altered = [0u8; 16384];
-    altered[8193] = 7;
+    show(&rt, scratch, [1, 2]);
+    scratch[8193] = 7;
     say(&rt, b"second run\n");
-    run(&rt, &mut altered, 3, 4);
+    show(&rt, scratch, [3, 4]);
 }

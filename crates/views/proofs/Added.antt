@@ -3,11 +3,10 @@ use Prim.Native.Nat.{ℕ, min, ◌+◌, ◌-◌, ◌*◌, ◌≤◌, ◌<◌}
 use mathlib.Core.Bool.{true}
 use mathlib.Core.Path.{◌≡◌, sym, ap, ap₂, ◌∙◌}
 use native.Mathlib.Omega.{arith}
-use lib.Dec.{ltb}
 use lib.ListN.{get_or}
 use borrow.Author.Tests.{lt-ltb}
 use Rattle.lists.specs.Choice.{choose}
-use Rattle.lists.specs.Places.{lowest_from}
+use Rattle.lists.specs.Places.{lowest, lowest_from}
 use Rattle.lists.proofs.Choice.{yes! }
 use Rattle.lookup.specs.Rows.{row_of}
 use Rattle.lookup.proofs.Lists.{free_entry_at}
@@ -20,7 +19,7 @@ use Rattle.model.specs.Tables.{no_guest, unused_entry, guest_at, guest_place, en
 use Rattle.model.proofs.SoundTest.{sound_decides}
 use Rattle.views.specs.declared.View.{View}
 use Rattle.asks.specs.Asks.{asks_by}
-use Rattle.views.specs.Taking.{taking_for, taken_by, listed, free_place}
+use Rattle.views.specs.Taking.{free_for, listed, free_place}
 use Rattle.views.specs.Views.{view_of}
 use Rattle.views.proofs.Judged.{seen_enrolled, place_own, row_own, seen_caller}
 
@@ -37,18 +36,14 @@ module _ (s : State) (g i : ℕ) (r : Right) (v : View) (e : v ≡ view_of s (as
     high : list ≤ 30
     high = ((sound_decides s).to ok).guests.list_high g (seen_enrolled s g (Add i r) v e l)
 
-    least : 1 ≤ list
-    least = ((sound_decides s).to ok).guests.list_low g (seen_enrolled s g (Add i r) v e l)
-
     pub add_free : v.free ≡ free_entry s.entries g list
-    unfolding view_of asks_by taking_for taken_by choose
+    unfolding view_of asks_by free_for choose lowest
     add_free =
-        let whole : min list 30 ≡ list = omega (arith, high) in
+        let whole : min list 30 ≡ list - 0 = omega (arith, high) in
         let own : v.place + 1 ≡ g = seen_caller s g (Add i r) v e l in
         ap (λ (x : View). x.free) e
-        ∙ ap (λ k. taken_by (taking_for true (get_or s.guests k no_guest).list) s.entries k) row
-        ∙ ap (λ n. choose (ltb 0 n) (lowest_from (λ k. may_take (listed s.entries (guest_place g) k).standing) 0 (n - 0)) 0) whole
-        ∙ yes! _ _ (lt-ltb 0 list least)
+        ∙ ap (λ k. free_for true (get_or s.guests k no_guest).list s.entries k) row
+        ∙ ap (λ n. lowest_from (λ k. may_take (listed s.entries (guest_place g) k).standing) 0 n) whole
         ∙ ap (λ p. lowest_from (λ k. may_take (listed s.entries p k).standing) 0 (list - 0)) (sym (place_own s g (Add i r) v e l))
         ∙ sym (free_entry_at s.entries v.place list)
         ∙ ap (λ h. free_entry s.entries h list) own

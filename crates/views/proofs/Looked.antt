@@ -1,10 +1,9 @@
 -- The space that a call names, and the permit that it looks at, as it has seen them. Assumes nothing.
 use Prim.Native.Nat.{ℕ, ◌+◌, ◌*◌, ◌<◌}
 use mathlib.Core.Path.{◌≡◌, refl, ap, ◌∙◌}
+use Rattle.std.specs.Prelude.{Some}
 use lib.ListN.{get_or}
 use borrow.Author.Tests.{lt-ltb}
-use Rattle.lists.specs.Choice.{choose}
-use Rattle.lists.specs.Places.{lowest}
 use Rattle.lists.proofs.Choice.{yes! }
 use Rattle.lookup.specs.Rows.{row_of, slot_row}
 use Rattle.lookup.proofs.Rows.{row_place}
@@ -20,7 +19,7 @@ use Rattle.asks.specs.declared.Sought.TheVariants.{Id}
 use Rattle.asks.specs.declared.Uses.TheVariants.{Token}
 use Rattle.views.specs.declared.View.{View}
 use Rattle.asks.specs.Asks.{asks_by}
-use Rattle.views.specs.Search.{sought_by, search_using, search_by, found_by}
+use Rattle.views.specs.Search.{slot_using, slot_sought}
 use Rattle.views.specs.Views.{view_of}
 
 -- what stands in the slot that was seen
@@ -44,8 +43,8 @@ module _ (s : State) (a : Asks) (v : View) (e : v ≡ view_of s a) where
       permit_row = rw e refl
 
 -- by identification, for every call that names its space so; and by owner and name
-id_finds : (s : State) (a : Asks) (i : ℕ) (v : View) → a.uses ≡ Token 0 → a.sought ≡ Id i → v ≡ view_of s a → v.slot ≡ slot_of s.spaces i
-unfolding view_of search_using search_by found_by choose sought_by slot_of lowest
+id_finds : (s : State) (a : Asks) (i : ℕ) (v : View) → a.uses ≡ Token 0 → a.sought ≡ Some (Id i) → v ≡ view_of s a → v.slot ≡ slot_of s.spaces i
+unfolding view_of slot_using slot_sought
 id_finds s a i v plain named e = ap (λ (x : View). x.slot) e ∙ rw (plain, named) refl
 
 module _ (s : State) (g i : ℕ) (v : View) where
@@ -69,7 +68,7 @@ module _ (s : State) (g i : ℕ) (v : View) where
   block_finds a k m e = id_finds s _ i v refl refl e
 
 pub query_finds : (s : State) (g o n : ℕ) (v : View) → v ≡ view_of s (asks_by g (Query o n)) → v.slot ≡ slot_named s.spaces o n
-unfolding view_of asks_by search_using search_by found_by choose sought_by slot_named lowest
+unfolding view_of asks_by slot_using slot_sought
 query_finds s g o n v e = ap (λ (x : View). x.slot) e
 
 -- PERMIT's other guest

@@ -1,4 +1,4 @@
--- The token that a call uses, the searches for its space and for an entry, and what it sees.
+-- The token that a call uses, the slot of its space, the entry that it takes, and what it sees.
 pub mod Token
 pub mod Search
 pub mod Taking

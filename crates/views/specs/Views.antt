@@ -11,8 +11,8 @@ use Rattle.translation.specs.Translated.{token_place}
 use Rattle.asks.specs.declared.Asks.{Asks}
 use Rattle.views.specs.declared.View.{View}
 use Rattle.views.specs.Token.{token_by}
-use Rattle.views.specs.Search.{search_for, found_by}
-use Rattle.views.specs.Taking.{taking_for, taken_by, free_place}
+use Rattle.views.specs.Search.{slot_for}
+use Rattle.views.specs.Taking.{free_for, free_place}
 
 abbrev pub row_at : State → (guest : ℕ) → Guest
 row_at s g = get_or s.guests (row_of g) no_guest
@@ -25,10 +25,10 @@ abbrev pub entry_seen : State → Asks → Entry
 entry_seen s a = get_or s.entries (token_place (row_of a.caller) (token_seen s a)) unused_entry
 
 abbrev pub slot_seen : State → Asks → ℕ
-slot_seen s a = found_by (search_for a (token_seen s a) (entry_seen s a)) s.spaces
+slot_seen s a = slot_for a (token_seen s a) (entry_seen s a) s.spaces
 
 abbrev pub free_seen : State → Asks → ℕ
-free_seen s a = taken_by (taking_for a.takes (row_at s a.caller).list) s.entries (row_of a.caller)
+free_seen s a = free_for a.takes (row_at s a.caller).list s.entries (row_of a.caller)
 
 -- where the cell of a page of a space stands; a page that the space has lies in a frame below 512
 unfoldable pub cell_place : Space → (page : ℕ) → ℕ

@@ -1,38 +1,27 @@
-// What a call looks at in the tables: a few elements. Whoever owns the tables reads them out and hands them to the call, so
-// that no table is moved to it. Which elements they are is `view_of` of the specs.
+// What a call looks at in the tables: a few elements, read out of a state that is lent. Which elements they are is `view_of` of the
+// specs.
 #![tactic(auto)]
 
-ghost use Rattle.std.specs.Prelude.{◌+◌, ◌/◌, ◌<◌, true, false, ◌≡◌};
-ghost use Rattle.asks.specs.declared.Sought.TheVariants.{Nothing};
-ghost use Rattle.views.specs.Search.{sought_by, search_by, search_through, search_for, Advanced};
-ghost use Rattle.views.specs.Taking.{taking_for, WithinList, WentOn, free_place};
+ghost use Rattle.std.specs.Prelude.{◌+◌, ◌/◌, ◌<◌, ◌≤◌, ◌≡◌, MatchResult, Some};
+ghost use Rattle.asks.specs.Asks.{asks_by};
+ghost use Rattle.lookup.specs.Found.{found};
+ghost use Rattle.model.specs.declared.Answer.TheVariants.{BadCaller};
+ghost use Rattle.views.specs.Search.{slot_sought, slot_through, slot_for};
+ghost use Rattle.views.specs.Taking.{free_for, free_place};
 ghost use Rattle.views.specs.Token.{token_by};
 ghost use Rattle.views.specs.Views.{cell_place, view_of};
 
 use asks::{Asks, Sought, Uses};
 use keys::Guard;
-use model::{BASE, Cpu, Entry, Guest, Permit, Space, Standing, State};
-
-// A search through the slots. While it is looking it comes to slot `at` next; then `at` is what it found, 32 for nothing.
-#[derive(Clone, Copy)]
-pub struct Search {
-    pub sought: Sought,
-    pub at: u8,
-    pub looking: bool,
-}
-
-// A search through the first `end` entries of a list, in the same way. It ends at `end` where none may be taken.
-#[derive(Clone, Copy)]
-pub struct Taking {
-    pub at: u8,
-    pub end: u8,
-    pub looking: bool,
-}
+use model::{
+    Answer, BASE, Call, Caller, Cpu, Entry, Guest, Operation, Permit, Space, Standing, State,
+};
 
 // What it sees: the places of the caller and of the other guest, 8 for one that is not enrolled; what stands in the caller's
 // row; the token, and the entry that it names; the slot of the space, what stands there, and the other guest's permit for it;
 // the entry that may be taken, counted from 0, and what stands there; the caller's access key, and what protects the block of the
-// address and the block after it.
+// address and the block after it. What is not there has a number, and is no Option, since `view_of` is in the words of the model,
+// whose searches come to the number of places (model `Leaves.caller_place`, `Searches.slot_of`, `Searches.free_entry`).
 #[derive(Clone, Copy)]
 pub struct View {
     pub place: usize,
@@ -48,6 +37,18 @@ pub struct View {
     pub guard: Guard,
 }
 
+impl View {
+    // Check 2: the place of a caller that is enrolled.
+    pub fn caller(&self) -> Result<u8, Answer>
+        ensures { MatchResult result (λ at. (at ≡ self.now.place) × (self.now.place < 8)) (λ a. (a ≡ BadCaller) × (8 ≤ self.now.place)) }
+    {
+        if 8 <= self.place {
+            return Err(Answer::BadCaller);
+        }
+        Ok(self.place as u8)
+    }
+}
+
 // The token, by the caller's CPU.
 pub fn token_seen(a: Asks, c: Cpu) -> u32
     ensures { result ≡ token_by a.uses c }
@@ -59,143 +60,71 @@ pub fn token_seen(a: Asks, c: Cpu) -> u32
             if 15 < register {
                 return 0;
             }
-            translation::token_used(c, register)
+            translation::token_used(&c, register)
         }
     }
 }
 
-fn settled(slot: u8) -> Search
-    ensures { result ≡ record { sought = Nothing; at = slot; looking = false } }
+#[tactic(auto, unfolding(crate::specs::Search::slot_sought))]
+fn find(spaces: &[Space; 32], sought: Sought) -> Option<usize>
+    ensures { result ≡ found 32 (slot_sought (Some sought) spaces.now) }
 {
-    Search {
-        sought: Sought::Nothing,
-        at: slot,
-        looking: false,
+    match sought {
+        Sought::Id { id } => lookup::find_space(spaces, id),
+        Sought::Named { owner, name } => lookup::find_named(spaces, owner, name),
     }
 }
 
-fn searching(sought: Sought) -> Search
-    ensures { result ≡ record { sought = sought; at = 0; looking = true } }
+// The slot of the space that is named; 32 where there is none.
+fn slot_sought(spaces: &[Space; 32], sought: Option<Sought>) -> u8
+    ensures { result ≡ slot_sought sought spaces.now }
 {
-    Search {
-        sought: sought,
-        at: 0,
-        looking: true,
+    match sought {
+        Some(named) => find(spaces, named).unwrap_or(32) as u8,
+        None => 32,
     }
 }
 
 // Through a token: the caller's primary space for token 0, else the space of the entry.
-fn search_through(caller: u32, token: u32, e: Entry) -> Search
-    ensures { result ≡ search_through caller token e.standing }
+fn slot_through(spaces: &[Space; 32], caller: u32, token: u32, e: Entry) -> u8
+    ensures { result ≡ slot_through caller token e.standing spaces.now }
 {
     if token == 0 {
-        return searching(Sought::Named {
-            owner: caller,
-            name: BASE,
-        });
+        return slot_sought(
+            spaces,
+            Some(Sought::Named {
+                owner: caller,
+                name: BASE,
+            }),
+        );
     }
-    let standing = e.standing;
-    match standing {
-        Standing::Unused => settled(32),
-        Standing::Valid { slot, right: _ } => settled(slot),
-        Standing::Revoked => settled(32),
+    match e.standing {
+        Standing::Valid { slot, right: _ } => slot,
+        Standing::Unused | Standing::Revoked => 32,
     }
 }
 
-fn search_by(sought: Sought) -> Search
-    ensures { result ≡ search_by sought }
+fn slot_for(spaces: &[Space; 32], a: Asks, token: u32, e: Entry) -> u8
+    ensures { result ≡ slot_for a token e spaces.now }
 {
-    match sought {
-        Sought::Nothing => settled(32),
-        Sought::Id { .. } => searching(sought),
-        Sought::Named { .. } => searching(sought),
+    match a.uses {
+        Uses::Token { .. } => slot_sought(spaces, a.sought),
+        Uses::Register { .. } => slot_through(spaces, a.caller, token, e),
     }
 }
 
-// Where the search for the space begins.
-pub fn search_for(a: Asks, token: u32, e: Entry) -> Search
-    ensures { (result ≡ search_for a token e) × (result.looking ≡ true → result.at < 32) }
-{
-    let uses = a.uses;
-    let sought = a.sought;
-    match uses {
-        Uses::Token { .. } => search_by(sought),
-        Uses::Register { .. } => search_through(a.caller, token, e),
-    }
-}
-
-fn is_sought(x: Space, sought: Sought) -> bool
-    ensures { result ≡ sought_by sought x }
-{
-    match sought {
-        Sought::Nothing => false,
-        Sought::Id { id } => slots::is_space(x, id),
-        Sought::Named { owner, name } => slots::is_named(x, owner, name),
-    }
-}
-
-// One slot more, by what stands there.
-pub fn advance(f: Search, x: Space) -> Search
-    requires { (f.looking ≡ true) × (f.at < 32) }
-    ensures { Advanced f x result }
-{
-    let sought = f.sought;
-    if is_sought(x, sought) {
-        return Search {
-            sought: sought,
-            at: f.at,
-            looking: false,
-        };
-    }
-    Search {
-        sought: sought,
-        at: f.at + 1,
-        looking: f.at < 31,
-    }
-}
-
-// Where the search for an entry begins, in a list of a length; no list has more than 30 entries.
-pub fn take_from(takes: bool, list: u8) -> Taking
-    ensures { (result ≡ taking_for takes list) × WithinList result }
+// The lowest entry of the list in a row that may be taken, counted from 0; the list's length where there is none.
+fn free_for(takes: bool, list: u8, entries: &[Entry; 240], row: usize) -> u8
+    requires { row < 8 }
+    ensures { result ≡ free_for takes list entries.now row }
 {
     if !takes {
-        return Taking {
-            at: 0,
-            end: 0,
-            looking: false,
-        };
+        return 0;
     }
-    if 30 < list {
-        return Taking {
-            at: 0,
-            end: 30,
-            looking: true,
-        };
-    }
-    Taking {
-        at: 0,
-        end: list,
-        looking: 0 < list,
-    }
-}
-
-// One entry more, by what stands there.
-pub fn go_on(f: Taking, e: Entry) -> Taking
-    requires { (f.looking ≡ true) × WithinList f }
-    ensures { WentOn f e result }
-{
-    if entries::may_take(e) {
-        return Taking {
-            at: f.at,
-            end: f.end,
-            looking: false,
-        };
-    }
-    Taking {
-        at: f.at + 1,
-        end: f.end,
-        looking: f.at + 1 < f.end,
-    }
+    let own = &entries[row * 30..row * 30 + list.min(30) as usize];
+    own.iter()
+        .position(|e| entries::may_take(*e))
+        .unwrap_or(own.len()) as u8
 }
 
 // Where the entry that a search came to stands, for the guest at a row.
@@ -223,50 +152,49 @@ pub fn beyond_place(x: Space, address: u32) -> usize
     (block_place(x, address) + 1) % 512
 }
 
-// What a call sees of a state that is handed over.
-pub fn seen_in(s: State, a: Asks) -> View
-    ensures { result ≡ view_of s a }
+// What a call sees of a state. It is put into each call, which then reads only what that call looks at.
+#[inline(always)]
+pub fn seen_in(s: &State, a: Asks) -> View
+    ensures { result ≡ view_of s.now a }
 {
     let row = lookup::row(a.caller);
     let guest = s.guests[row];
     let cpu = s.cpus[row];
     let token = token_seen(a, cpu);
     let entry = s.entries[translation::entry_place(row, token)];
-    let mut search = search_for(a, token, entry);
-    while search.looking {
-        let at = search.at as usize;
-        let x = s.spaces[at];
-        search = advance(search, x);
-    }
-    let mut take = take_from(a.takes, guest.list);
-    while take.looking {
-        let k = row * 30 + take.at as usize;
-        let e = s.entries[k];
-        take = go_on(take, e);
-    }
-    let u = lookup::slot_row(search.at as usize);
+    let slot = slot_for(&s.spaces, a, token, entry);
+    let free = free_for(a.takes, guest.list, &s.entries, row);
+    let u = lookup::slot_row(slot as usize);
     let space = s.spaces[u];
     let column = lookup::row(a.other);
     let other = s.guests[column];
     let permit = s.permits[u * 8 + column];
-    let unused = s.entries[free_place(row, take.at)];
+    let unused = s.entries[free_place(row, free)];
     let block = s.cells[block_place(space, a.address)];
     let beyond = s.cells[beyond_place(space, a.address)];
     View {
         place: lookup::place_of(guest, a.caller),
-        guest: guest,
+        guest,
         other: lookup::place_of(other, a.other),
-        token: token,
-        entry: entry,
-        slot: search.at,
-        space: space,
-        permit: permit,
-        free: take.at,
-        unused: unused,
+        token,
+        entry,
+        slot,
+        space,
+        permit,
+        free,
+        unused,
         guard: Guard {
             key: cpu.key,
-            block: block,
-            beyond: beyond,
+            block,
+            beyond,
         },
     }
+}
+
+// What a caller's call sees of it.
+#[inline(always)]
+pub fn seen_by(s: &State, caller: Caller, operation: Operation) -> View
+    ensures { result ≡ view_of s.now (asks_by caller.guest operation) }
+{
+    seen_in(s, asks::asked_by(&Call { caller, operation }))
 }

@@ -1,5 +1,6 @@
 -- Laws of this crate.
 pub mod Sets
+pub mod Emptying
 pub mod Freeing
 pub mod Resetting
 pub mod Done

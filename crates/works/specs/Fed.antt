@@ -1,18 +1,13 @@
 -- Where the work on lines stands, whichever it is.
-use Rattle.std.specs.Prelude.{ℕ, Bool, true, false, List, take}
-use Rattle.feeds.specs.Feed as feeds
+use Rattle.std.specs.Prelude.{ℕ, List}
+use Rattle.model.specs.Session.{new_session}
+use Rattle.feeds.specs.Feed.{Feed}
+use Rattle.driver.specs.Fed as driver
+use Rattle.rewriting.specs.Fed as rewriting
 use Rattle.works.specs.declared.Work.{Work}
+use Rattle.works.specs.declared.Work.TheVariants.{Answering, Rewriting}
 
--- what is done with lines
-abbrev pub work_by : (rewrites : Bool) → feeds.Work
-work_by true = feeds.rewrites
-work_by false = feeds.answers
-
--- `held` holds the line so far in its first bytes
-abbrev pub feed_by : Work → (held scratch : List ℕ) → feeds.Feed
-feed_by w h m = record {
-  work = work_by w.rewrites;
-  session = record { begun = w.session.begun; tables = w.session.state; scratch = m };
-  line = w.session.line;
-  held = take w.session.have h;
-}
+-- `held` holds the line so far in its first bytes; lines that are written again leave the session as it is before the first line
+abbrev pub feed_by : Work → (held scratch : List ℕ) → Feed
+feed_by (Answering s) h m = driver.feed_of s h m
+feed_by (Rewriting r) h m = rewriting.feed_of (new_session m) r h

@@ -1,153 +1,98 @@
--- The fields of a form are gone through one by one, by its shape. Assumes nothing.
-use Prim.Native.Nat.{ℕ, ◌+◌, ◌/◌, ◌%◌, ◌≤◌, ◌<◌}
+-- The fields of a line are gone through one by one: what is taken or written of the kinds and the values that are left. Assumes
+-- nothing.
+use Prim.Native.Nat.{ℕ, ◌+◌}
 use mathlib.Core.Bool.{Bool, true, false}
-use mathlib.Core.List.{List, [], ◌∷◌, ◌++◌, append-nil, append_assoc}
-use mathlib.Core.Path.{◌≡◌, refl, sym, ap, ap₂, ◌∙◌, subst}
+use mathlib.Core.List.{List, [], ◌∷◌, ◌++◌, map, append-nil, append_assoc}
+use mathlib.Core.Path.{◌≡◌, refl, sym, ap, ap₂, ◌∙◌}
 use native.Mathlib.Omega.{arith}
-use lib.ListN.{length, get_or, drop}
-use Rattle.lists.proofs.Choice.{both_yes, both_no, both_left, both_right}
-use Rattle.lists.proofs.Parts.{drop_next}
-use Rattle.model.specs.Lines.{FieldKind, calls, form_at}
+use lib.ListN.{length}
+use Rattle.lists.proofs.Choice.{true_false, both_yes, both_no, both_left, both_right}
+use Rattle.lists.proofs.Parts.{no_elements}
 use Rattle.model.specs.Written.{field_text, field_texts, tabbed, takes_field, takes_fields}
-use Rattle.digits.specs.Wrote.{Wrote}
-use Rattle.digits.proofs.Writing.{wrote_none, wrote_more, wrote_long}
+use Rattle.digits.specs.declared.Text.{Text}
+use Rattle.digits.specs.Wrote.{HasRoom, Adds}
+use Rattle.digits.proofs.Writing.{adds, adds_more, wrote_none}
+use Rattle.fields.specs.declared.Kind.{Kind}
+use Rattle.fields.specs.Fields.{kind_of}
 use Rattle.forms.specs.Sizes.{most_of, most_in}
-use Rattle.forms.specs.Tables.{shape_of, kind_of}
 use Rattle.forms.proofs.Sizes.{field_short}
-use Rattle.forms.proofs.Tables.{Kinds, none, more, kinds_of, enough, few_fields}
 
--- the kinds that are left, where the first k of the values are gone through
-pub record Remaining (values : List ℕ) (shape k : ℕ) : Type 0 where
-  pub kinds : List FieldKind
-  pub are : shape ≡ shape_of kinds
-  pub room : k + length kinds ≤ length values
+abbrev taken : List Kind → (values lent : List ℕ) → Bool
+taken ks vs d = takes_fields (map kind_of ks) vs d
 
-abbrev all_remain : (p : ℕ) (values : List ℕ) (shape m : ℕ) → length values ≡ m → enough m ≡ true → p < calls → shape ≡ shape_of (form_at p).kinds → Remaining values shape 0
-all_remain p values shape m l e h s = record { kinds = (form_at p).kinds; are = s; room = omega (arith, few_fields p m e h) }
+abbrev texts : List Kind → (values lent : List ℕ) → List ℕ
+texts ks vs d = tabbed (field_texts (map kind_of ks) vs d)
 
--- one more field, and those after it
-record Next {values : List ℕ} {shape k : ℕ} (r : Remaining values shape k) : Type 0 where
-  kind : FieldKind
-  others : Remaining values (shape / 8) (k + 1)
-  is : r.kinds ≡ kind ∷ others.kinds
-  kind_is : kind_of (shape % 8) ≡ kind
-  inside : k < length values
-  value : drop k values ≡ get_or values k 0 ∷ drop (k + 1) values
+abbrev most : List Kind → ℕ
+most ks = most_in (map kind_of ks)
 
-next : {values : List ℕ} {shape k : ℕ} (r : Remaining values shape k) → (shape ≡ 0 → ⊥) → Next r
-next {values} {shape} {k} r n = go r.kinds refl (kinds_of shape r.kinds r.are)
-  where
-    go : (ks : List FieldKind) → r.kinds ≡ ks → Kinds shape ks → Next r
-    go _ e (none z) = absurd (n z)
-    go _ e (more kind ks _ q s) =
-        let h : k + (length ks + 1) ≤ length values = omega (arith, r.room, ap length e) in
-        let i : k < length values = omega arith in
-        record {
-          kind = kind;
-          others = record { kinds = ks; are = s; room = omega arith };
-          is = e;
-          kind_is = q;
-          inside = i;
-          value = drop_next values k 0 i;
-        }
-
-last : {values : List ℕ} {shape k : ℕ} (r : Remaining values shape k) → shape ≡ 0 → r.kinds ≡ []
-last {values} {shape} {k} r z = go r.kinds refl (kinds_of shape r.kinds r.are)
-  where
-    go : (ks : List FieldKind) → r.kinds ≡ ks → Kinds shape ks → r.kinds ≡ []
-    go _ e (none _) = e
-    go _ e (more _ _ n _ _) = absurd (n z)
-
--- Whether fields are taken: those gone through are.
-pub record Taking (p : ℕ) (values d : List ℕ) (shape k : ℕ) : Type 0 where
-  pub left : Remaining values shape k
-  pub same : takes_fields (form_at p).kinds values d ≡ takes_fields left.kinds (drop k values) d
-
-pub taking_start : (p : ℕ) (values d : List ℕ) (shape m : ℕ) → length values ≡ m → enough m ≡ true → p < calls → shape ≡ shape_of (form_at p).kinds → Taking p values d shape 0
-taking_start p values d shape m l e h s = record { left = all_remain p values shape m l e h s; same = refl }
-
-module _ (p : ℕ) (values d : List ℕ) (shape k : ℕ) (t : Taking p values d shape k) where
-  pub taking_room : (m : ℕ) → (shape ≡ 0 → ⊥) → length values ≡ m → k < m
-  taking_room m n e = omega (arith, (next t.left n).inside)
-
-  taking_next : (n : shape ≡ 0 → ⊥) → takes_fields (form_at p).kinds values d ≡ takes_fields ((next t.left n).kind ∷ (next t.left n).others.kinds) (get_or values k 0 ∷ drop (k + 1) values) d
-  taking_next n = let x = next t.left n in t.same ∙ ap₂ (λ ks vs. takes_fields ks vs d) x.is x.value
-
-  module _ (n : shape ≡ 0 → ⊥) (r : Bool) (q : r ≡ takes_field (kind_of (shape % 8)) (get_or values k 0) d) where
-    answer : r ≡ takes_field (next t.left n).kind (get_or values k 0) d
-    answer = q ∙ ap (λ x. takes_field x (get_or values k 0) d) (next t.left n).kind_is
-
-    pub taking_stop : r ≡ false → false ≡ takes_fields (form_at p).kinds values d
+-- whether the fields are taken: one more, and none left
+module _ (w : Bool) (d : List ℕ) (ks : List Kind) (vs : List ℕ) (same : w ≡ taken ks vs d) where
+  module _ (k : Kind) (v : ℕ) (ks' : List Kind) (vs' : List ℕ) (e : ks ≡ k ∷ ks') (f : vs ≡ v ∷ vs') {r : Bool} (is : r ≡ takes_field (kind_of k) v d) where
+    pub taking_stop : r ≡ false → false ≡ w
     unfolding takes_fields
-    taking_stop f = sym (taking_next n ∙ both_no _ (sym answer ∙ f))
+    taking_stop z = sym (same ∙ ap₂ (λ x y. taken x y d) e f ∙ both_no _ (sym is ∙ z))
 
-    pub taking_more : r ≡ true → Taking p values d (shape / 8) (k + 1)
+    pub taking_more : r ≡ true → w ≡ taken ks' vs' d
     unfolding takes_fields
-    taking_more y = record { left = (next t.left n).others; same = taking_next n ∙ both_yes _ (sym answer ∙ y) }
+    taking_more y = same ∙ ap₂ (λ x y. taken x y d) e f ∙ both_yes _ (sym is ∙ y)
 
-  pub taking_end : shape ≡ 0 → true ≡ takes_fields (form_at p).kinds values d
+  pub taking_end : length ks ≡ 0 → true ≡ w
   unfolding takes_fields
-  taking_end z = sym (t.same ∙ ap (λ ks. takes_fields ks (drop k values) d) (last t.left z))
+  taking_end z = sym (same ∙ ap (λ x. taken x vs d) (no_elements ks z))
 
--- The fields' texts: those of the fields gone through are written, and there is room for the others.
-pub record Putting (o : List ℕ) (start p : ℕ) (values d t : List ℕ) (at shape k : ℕ) : Type 0 where
-  pub left : Remaining values shape k
-  pub text : List ℕ
-  pub whole : tabbed (field_texts (form_at p).kinds values d) ≡ text ++ tabbed (field_texts left.kinds (drop k values) d)
-  pub wrote : Wrote o start text t at
-  pub long : length t ≡ length o
-  pub takes : takes_fields left.kinds (drop k values) d ≡ true
-  pub fits : at + most_in left.kinds ≤ length t
+-- Of the fields' texts some are written, and there is room for those of the kinds and the values that are left.
+pub record Putting (before : Text) (all : List Kind) (values d : List ℕ) (now : Text) (ks : List Kind) (vs : List ℕ) : Type 0 where
+  pub written : List ℕ
+  pub whole : texts all values d ≡ written ++ texts ks vs d
+  pub adds : Adds before written now
+  pub room : HasRoom now (most ks)
+  pub takes : taken ks vs d ≡ true
 
-pub putting_start : (o : List ℕ) (start p : ℕ) (values d : List ℕ) (shape m : ℕ) → length values ≡ m → enough m ≡ true → p < calls → start + most_in (form_at p).kinds ≤ length o
-    → takes_fields (form_at p).kinds values d ≡ true → shape ≡ shape_of (form_at p).kinds → Putting o start p values d o start shape 0
-putting_start o start p values d shape m l e h room t s = record { left = all_remain p values shape m l e h s; text = []; whole = refl; wrote = wrote_none o start (omega arith); long = refl; takes = t; fits = room }
+pub putting_start : (t : Text) (all ks : List Kind) (values vs d : List ℕ) → ks ≡ all → vs ≡ values → HasRoom t (most all) → taken all values d ≡ true → Putting t all values d t ks vs
+putting_start t all ks values vs d e f room takes =
+    rw (e, f) (record { written = []; whole = refl; adds = adds refl (wrote_none _ _ (omega arith)); room = room; takes = takes })
 
-module _ (o : List ℕ) (start p : ℕ) (values d t : List ℕ) (at shape k : ℕ) (w : Putting o start p values d t at shape k) where
-  pub putting_room : (m : ℕ) → (shape ≡ 0 → ⊥) → length values ≡ m → k < m
-  putting_room m n e = omega (arith, (next w.left n).inside)
+module _ {t : Text} {all : List Kind} {values d : List ℕ} {u : Text} {ks : List Kind} {vs : List ℕ} (p : Putting t all values d u ks vs) where
+  module _ (k : Kind) (v : ℕ) (ks' : List Kind) (vs' : List ℕ) (e : ks ≡ k ∷ ks') (f : vs ≡ v ∷ vs') where
+    first_taken : taken (k ∷ ks') (v ∷ vs') d ≡ true
+    first_taken = sym (ap₂ (λ x y. taken x y d) e f) ∙ p.takes
 
-  module _ (n : shape ≡ 0 → ⊥) where
-    first_takes : (takes_field (next w.left n).kind (get_or values k 0) d ≡ true) × (takes_fields (next w.left n).others.kinds (drop (k + 1) values) d ≡ true)
+    pub putting_takes : takes_field (kind_of k) v d ≡ true
     unfolding takes_fields
-    first_takes =
-        let x = next w.left n in
-        let q = sym (ap₂ (λ ks vs. takes_fields ks vs d) x.is x.value) ∙ w.takes in
-        (both_left _ _ q, both_right _ _ q)
+    putting_takes = both_left _ _ first_taken
 
-    pub putting_takes : takes_field (kind_of (shape % 8)) (get_or values k 0) d ≡ true
-    putting_takes = ap (λ x. takes_field x (get_or values k 0) d) (next w.left n).kind_is ∙ first_takes.0
-
-    most_next : most_in w.left.kinds ≡ 1 + most_of (next w.left n).kind + most_in (next w.left n).others.kinds
+    most_first : most ks ≡ 1 + most_of (kind_of k) + most ks'
     unfolding most_in
-    most_next = ap most_in (next w.left n).is
+    most_first = ap most e
 
-    pub putting_fits : at + (1 + most_of (kind_of (shape % 8))) ≤ length t
-    putting_fits = omega (arith, w.fits, most_next, ap most_of (next w.left n).kind_is)
+    pub putting_room : HasRoom u (1 + most_of (kind_of k))
+    putting_room = omega (arith, p.room, most_first)
 
-    pub putting_more : (t₁ : List ℕ) (b : ℕ) → Wrote t at (9 ∷ field_text (kind_of (shape % 8)) (get_or values k 0) d) t₁ b → Putting o start p values d t₁ b (shape / 8) (k + 1)
-    unfolding field_texts tabbed
-    putting_more t₁ b v =
-        let x = next w.left n in
-        let f = field_text (kind_of (shape % 8)) (get_or values k 0) d in
-        let e : field_text x.kind (get_or values k 0) d ≡ f = ap (λ y. field_text y (get_or values k 0) d) (sym x.kind_is) in
-        let rest = tabbed (field_texts x.others.kinds (drop (k + 1) values) d) in
-        let c : tabbed (field_texts w.left.kinds (drop k values) d) ≡ (9 ∷ f) ++ rest =
-        ap₂ (λ ks vs. tabbed (field_texts ks vs d)) x.is x.value ∙ ap (λ y. 9 ∷ (y ++ rest)) e in
-        let short : length f ≤ most_of x.kind = rw (← e) (field_short x.kind (get_or values k 0) d first_takes.0) in
+    pub putting_more : (u' : Text) → Adds u (9 ∷ field_text (kind_of k) v d) u' → Putting t all values d u' ks' vs'
+    unfolding field_texts tabbed takes_fields
+    putting_more u' a =
+        let one = field_text (kind_of k) v d in
+        let short = field_short (kind_of k) v d putting_takes in
         record {
-          left = x.others;
-          text = w.text ++ (9 ∷ f);
-          whole = w.whole ∙ (ap (λ y. w.text ++ y) c ∙ sym (append_assoc w.text (9 ∷ f) rest));
-          wrote = wrote_more w.wrote v;
-          long = wrote_long v ∙ w.long;
-          takes = first_takes.1;
-          fits = omega (arith, v.place, w.fits, most_next, wrote_long v);
+          written = p.written ++ (9 ∷ one);
+          whole = p.whole ∙ ap (λ x. p.written ++ x) (ap₂ (λ x y. texts x y d) e f) ∙ sym (append_assoc p.written (9 ∷ one) (texts ks' vs' d));
+          adds = adds_more p.adds a;
+          room = omega (arith, p.room, most_first, short, a.as_long, a.wrote.place);
+          takes = both_right _ _ first_taken;
         }
 
-  pub putting_end : shape ≡ 0 → Wrote o start (tabbed (field_texts (form_at p).kinds values d)) t at
+  -- where no value is left, no kind is
+  pub putting_few : length vs ≡ 0 → length ks ≡ 0
+  unfolding takes_fields
+  putting_few z = go ks (sym (ap (λ y. taken ks y d) (no_elements vs z)) ∙ p.takes)
+    where
+      go : (ks : List Kind) → taken ks [] d ≡ true → length ks ≡ 0
+      go [] e = refl
+      go (k ∷ ks) e = true_false e refl
+
+  pub putting_end : length ks ≡ 0 → Adds t (texts all values d) u
   unfolding field_texts tabbed
   putting_end z =
-      let e : tabbed (field_texts (form_at p).kinds values d) ≡ w.text =
-      w.whole ∙ (ap (λ ks. w.text ++ tabbed (field_texts ks (drop k values) d)) (last w.left z) ∙ append-nil w.text) in
-      subst (λ x. Wrote o start x t at) (sym e) w.wrote
+      let e : texts all values d ≡ p.written = p.whole ∙ ap (λ x. p.written ++ texts x vs d) (no_elements ks z) ∙ append-nil p.written in
+      rw e p.adds

@@ -1,5 +1,5 @@
 -- The table of names holds the words of the forms. Assumes nothing.
-use Prim.Native.Nat.{ℕ, zero, suc, ◌+◌, ◌≤◌, ◌<◌}
+use Prim.Native.Nat.{ℕ, zero, suc, ◌<◌}
 use mathlib.Core.List.{List, [], ◌∷◌, map, ◌++◌}
 use mathlib.Core.Path.{◌≡◌, refl, ap, ◌∙◌, subst}
 use native.Mathlib.Omega.{arith}
@@ -10,8 +10,9 @@ use Rattle.model.specs.Names.{name_bytes}
 use Rattle.model.specs.Places.{EachForm, end, and}
 use Rattle.forms.specs.Tables.{call_names}
 use Rattle.letters.specs.Words.{after_first, word_text}
-use Rattle.digits.specs.Wrote.{Wrote}
-use Rattle.digits.proofs.Writing.{wrote_more, wrote_long}
+use Rattle.digits.specs.declared.Text.{Text}
+use Rattle.digits.specs.Wrote.{HasRoom, Adds}
+use Rattle.digits.proofs.Writing.{adds_more}
 use Rattle.forms.specs.Sizes.{most_in, most_bytes}
 use Rattle.forms.proofs.Sizes.{form_short}
 
@@ -32,9 +33,9 @@ unfolding call_names
 word_at names p e h = ap (λ l. word_text (get_or l p 0)) e ∙ spelt_at forms each_spelt p h
 
 -- a word, and there is room for the fields behind it
-module _ (names : List ℕ) (p : ℕ) (e : names ≡ call_names) (h : p < calls) {o o₁ : List ℕ} {at : ℕ} (w : Wrote o 0 (word_text (get_or names p 0)) o₁ at) where
-  pub word_room : most_bytes ≤ length o → at + most_in (form_at p).kinds ≤ length o₁
-  word_room l = omega (arith, form_short p h, ap length (word_at names p e h), w.place, wrote_long w)
+module _ (names : List ℕ) (p : ℕ) (e : names ≡ call_names) (h : p < calls) {t u : Text} (w : Adds t (word_text (get_or names p 0)) u) where
+  pub word_room : HasRoom t most_bytes → HasRoom u (most_in (form_at p).kinds)
+  word_room l = omega (arith, form_short p h, ap length (word_at names p e h), w.wrote.place, w.as_long)
 
-  pub word_then : {o₂ t : List ℕ} {b : ℕ} → Wrote o₁ at t o₂ b → Wrote o 0 ((form_at p).word ++ t) o₂ b
-  word_then {o₂} {t} {b} v = subst (λ x. Wrote o 0 (x ++ t) o₂ b) (word_at names p e h) (wrote_more w v)
+  pub word_then : {v : Text} {s : List ℕ} → Adds u s v → Adds t ((form_at p).word ++ s) v
+  word_then {v} {s} a = subst (λ x. Adds t (x ++ s) v) (word_at names p e h) (adds_more w a)

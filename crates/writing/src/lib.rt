@@ -2,58 +2,48 @@
 // `write_answer`.
 #![tactic(auto)]
 
-ghost use Rattle.std.specs.Prelude.{◌+◌, ◌≤◌, ◌<◌, true, ◌++◌, ◌≡◌, length};
+ghost use Rattle.std.specs.Prelude.{◌≤◌, ◌<◌, true, ◌++◌, ◌≡◌, length, map};
 ghost use Rattle.model.specs.Lines.{calls, form_at};
 ghost use Rattle.model.specs.Written.{field_texts, tabbed, takes_fields, write_answer, buffer_after};
-ghost use Rattle.digits.specs.Wrote.{Wrote};
+ghost use Rattle.digits.specs.Wrote.{HasRoom, Adds};
+ghost use Rattle.fields.specs.Fields.{kind_of};
 ghost use Rattle.forms.specs.Sizes.{most_in, most_bytes};
 
+use digits::Text;
+use forms::Kind;
 use model::{Answer, Request};
 
-fn takes_fields(form: usize, values: [u64; forms::MOST_FIELDS], lent: &[u8]) -> bool
-    requires { form < calls }
-    ensures { result ≡ takes_fields (form_at form).kinds values lent.now }
+fn takes_fields(kinds: &[Kind], values: &[u64], lent: &[u8]) -> bool
+    requires { length kinds.now ≤ length values.now }
+    ensures { result ≡ takes_fields (map kind_of kinds.now) values.now lent.now }
 {
-    let mut kinds = forms::call_shape(form);
-    let mut k: usize = 0;
-    while kinds != 0 {
-        if !texts::takes_field(kinds % 8, values[k], lent) {
+    for (kind, value) in kinds.iter().zip(values) {
+        if !texts::takes_field(*kind, *value, lent) {
             return false;
         }
-        kinds = kinds / 8;
-        k += 1;
     }
     true
 }
 
-fn put_fields(
-    out: &mut [u8],
-    start: usize,
-    form: usize,
-    values: [u64; forms::MOST_FIELDS],
-    lent: &[u8],
-) -> usize
-    requires { (form < calls) × (start + most_in (form_at form).kinds ≤ length out.old) × (takes_fields (form_at form).kinds values lent.now ≡ true) }
-    ensures { Wrote out.old start (tabbed (field_texts (form_at form).kinds values lent.now)) out.new result }
+fn put_fields(text: &mut Text, kinds: &[Kind], values: &[u64], lent: &[u8])
+    requires room { HasRoom text.old (most_in (map kind_of kinds.now)) }
+    requires taken { takes_fields (map kind_of kinds.now) values.now lent.now ≡ true }
+    ensures { Adds text.old (tabbed (field_texts (map kind_of kinds.now) values.now lent.now)) text.new }
 {
-    let mut kinds = forms::call_shape(form);
-    let mut at = start;
-    let mut k: usize = 0;
-    while kinds != 0 {
-        at = texts::put_next(out, at, kinds % 8, values[k], lent);
-        kinds = kinds / 8;
-        k += 1;
+    for (kind, value) in kinds.iter().zip(values) {
+        texts::put_next(text, *kind, *value, lent);
     }
-    at
 }
 
-fn put_line(out: &mut [u8], form: usize, values: [u64; forms::MOST_FIELDS], lent: &[u8]) -> usize
-    requires { (form < calls) × (most_bytes ≤ length out.old) × (takes_fields (form_at form).kinds values lent.now ≡ true) }
-    ensures { Wrote out.old 0 ((form_at form).word ++ tabbed (field_texts (form_at form).kinds values lent.now)) out.new result }
+// A line of a form: its name and its fields.
+fn put_line(text: &mut Text, form: usize, values: &[u64; forms::MOST_FIELDS], lent: &[u8])
+    requires known { form < calls }
+    requires room { HasRoom text.old most_bytes }
+    requires taken { takes_fields (form_at form).kinds values.now lent.now ≡ true }
+    ensures { Adds text.old ((form_at form).word ++ tabbed (field_texts (form_at form).kinds values.now lent.now)) text.new }
 {
-    let names = forms::call_names();
-    let at = letters::put_word(out, names[form]);
-    put_fields(out, at, form, values, lent)
+    letters::put_word(text, forms::call_names()[form]);
+    put_fields(text, forms::call_kinds(form), values, lent);
 }
 
 // Writes a request's line, newline left out, over the first bytes of `out`; the value is its length. The data of a STORE are the first
@@ -62,20 +52,22 @@ pub fn write(request: Request, lent: &[u8], out: &mut [u8]) -> Answer
     ensures value { result ≡ write_answer request lent.now out.old }
     ensures out_after { out.new ≡ buffer_after request lent.now out.old }
 {
-    let parts = parting::parts_of(request);
-    let form = parts.form;
-    let values = parts.values;
-    if forms::CALLS <= form {
+    let Some(parts) = parting::parts_of(request) else {
         return Answer::NotWritten;
-    }
-    if !takes_fields(form, values, lent) {
+    };
+    if !takes_fields(forms::call_kinds(parts.form), &parts.values, lent) {
         return Answer::NotWritten;
     }
     let mut line = [0u8; forms::MOST_BYTES];
-    let n = put_line(&mut line, form, values, lent);
+    let mut text = Text {
+        out: &mut line,
+        at: 0,
+    };
+    put_line(&mut text, parts.form, &parts.values, lent);
+    let n = text.at;
     if out.len() < n {
         return Answer::RoomTooSmall;
     }
-    moves::put(out, &line[0..n]);
+    moves::put(out, &line[..n]);
     Answer::Done { value: n as u32 }
 }

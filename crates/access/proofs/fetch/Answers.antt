@@ -1,10 +1,8 @@
-use Rattle.access.proofs.Moved.{fetch_seen_in}
 use Rattle.access.proofs.Reach.{seen_run}
-use borrow.Author.Rules.{rules}
 use Rattle.access.proofs.fetch.Goals as goal
 
 pub fetch_seen-requires : goal.fetch_seen-requires
-fetch_seen-requires c = search seen_run
+fetch_seen-requires c = search (seen_run, c.args.s.now.held)
 
 pub returns : goal.returns
-returns c = let judged = fetch_seen_in _ _ _ _ _ _ _ _ _ _ (search rules) c.asked_by.ensures c.seen_in-v.ensures c.fetch_seen.ensures in record { value = judged.0; buffer_after = judged.1 }
+returns c = let judged = c.fetch_seen.ensures.is _ _ c.args.s.now.held c.seen_by-v.ensures in record { value = judged.0; buffer_after = judged.1 }

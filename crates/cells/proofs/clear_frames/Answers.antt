@@ -11,12 +11,6 @@ clear_run-requires c = search (frames_inside, rules)
 pub returns-then-x-lt16 : goal.returns-then-x-lt16
 returns-then-x-lt16 c = search frames_gone
 
-pub clear_run-requires-then-x-gt32 : goal.clear_run-requires-then-x-gt32
-clear_run-requires-then-x-gt32 c = search (frames_inside, rules)
-
-pub returns-then-x-gt32 : goal.returns-then-x-gt32
-returns-then-x-gt32 c = search frames_gone
-
 pub clear_run-requires-2 : goal.clear_run-requires-2
 clear_run-requires-2 c = search (front_inside, rules)
 

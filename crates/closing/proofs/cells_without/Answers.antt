@@ -1,12 +1,7 @@
-use native.Mathlib.Omega.{arith}
-use Rattle.closing.proofs.Closed.{turns, cells_done}
+use Rattle.std.proofs.Common.{rules}
+use Rattle.closing.proofs.Defaults.{cell_default}
+use Rattle.closing.proofs.Filled.{cells_gone}
 use Rattle.closing.proofs.cells_without.Goals as goal
 
-pub loop-f-init : goal.loop-f-init
-loop-f-init c = (omega arith, search turns)
-
-pub loop-f-preserved : goal.loop-f-preserved
-loop-f-preserved c = (omega arith, search turns)
-
 pub returns : goal.returns
-returns c = search cells_done
+returns c = cells_gone c.args.cells.now _ c.args.first c.args.pages _ c.requires c.told-cells (cell_default _ c.default.ensures) (c.fill.ensures.after (λ y h. search rules))

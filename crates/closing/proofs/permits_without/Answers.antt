@@ -1,12 +1,7 @@
-use native.Mathlib.Omega.{arith}
-use Rattle.closing.proofs.Closed.{turns, permits_done}
+use Rattle.std.proofs.Common.{rules}
+use Rattle.closing.proofs.Defaults.{permit_default}
+use Rattle.closing.proofs.Filled.{permits_gone}
 use Rattle.closing.proofs.permits_without.Goals as goal
 
-pub loop-k-init : goal.loop-k-init
-loop-k-init c = (omega arith, search turns)
-
-pub loop-k-preserved : goal.loop-k-preserved
-loop-k-preserved c = (omega arith, search turns)
-
 pub returns : goal.returns
-returns c = search permits_done
+returns c = permits_gone _ _ _ _ c.requires c.told-permits (permit_default _ c.default.ensures) (c.fill.ensures.after (λ y h. search rules))

@@ -1,17 +1,15 @@
--- A number with a sign that is passed on is read back from its bits (Signed).
-use native.Mathlib.Omega.{arith}
-use Rattle.descriptors.proofs.Came.{moved_interrupted, moved_failed, moved_to}
-use Rattle.descriptors.proofs.Signed.{failed_so, shown_so, counted_so}
+use Rattle.std.proofs.Common.{arith}
+use Rattle.descriptors.proofs.Came.{came_so, came_most, written_on, written_interrupted, written_failed}
 use Rattle.descriptors.proofs.write_came.Goals as goal
 
-pub returns-then-e-eq4 : goal.returns-then-e-eq4
-returns-then-e-eq4 c =
-    moved_interrupted _ _ _ _ (shown_so c.ranges.error c.error_of-e.ensures) _ (failed_so c.ranges.answer c.is_below_zero.ensures c.if-is_below_zero.true) c.if-e-eq4.true
+pub overflow_add-result : goal.overflow_add-result
+overflow_add-result c = omega (arith, came_most _ _ _ _ c.in-Ok.ensures)
 
-pub returns-then-is_below_zero : goal.returns-then-is_below_zero
-returns-then-is_below_zero c =
-    moved_failed _ _ _ _ (shown_so c.ranges.error c.error_of-e.ensures) _ (failed_so c.ranges.answer c.is_below_zero.ensures c.if-is_below_zero.true) c.if-e-eq4.false
+pub returns-in-Ok : goal.returns-in-Ok
+returns-in-Ok c = written_on _ _ _ (came_so c.ranges.answer c.ranges.error _ _ c.in-Ok.ensures)
 
-pub returns : goal.returns
-returns c =
-    moved_to _ _ _ _ _ _ (failed_so c.ranges.answer c.is_below_zero.ensures c.if-is_below_zero.false) (counted_so _ c.ranges.answer c.count-n.ensures) (omega arith)
+pub returns-in-Err-Interrupted : goal.returns-in-Err-Interrupted
+returns-in-Err-Interrupted c = written_interrupted _ _ _ (came_so c.ranges.answer c.ranges.error _ _ c.in-Err-Interrupted.ensures) c.in-Err-Interrupted.field-0-is
+
+pub returns-in-Err-Failed : goal.returns-in-Err-Failed
+returns-in-Err-Failed c = written_failed _ _ _ _ (came_so c.ranges.answer c.ranges.error _ _ c.in-Err-Failed.ensures) c.in-Err-Failed.field-0-is

@@ -1,12 +1,9 @@
-use native.Mathlib.Omega.{arith}
-use Rattle.digits.proofs.Decimals.{count_some, count_few, count_start, count_turn, count_end}
+use Rattle.std.proofs.Common.{arith, sym}
+use Rattle.digits.proofs.Decimals.{count_by, count_zero}
 use Rattle.digits.proofs.count.Goals as goal
 
-pub loop-rest-init : goal.loop-rest-init
-loop-rest-init c = search (count_start, arith)
+pub returns-in-Some : goal.returns-in-Some
+returns-in-Some c = let e = c.in-Some.ensures in (sym (count_by _ _ (omega arith) e.power_le e.next_power_gt), omega arith, omega (arith, e.bound))
 
-pub loop-rest-preserved : goal.loop-rest-preserved
-loop-rest-preserved c = search count_turn
-
-pub returns : goal.returns
-returns c = search (count_end, count_some, count_few)
+pub returns-in-None : goal.returns-in-None
+returns-in-None c = let e = c.in-None.ensures in (sym (count_zero _ e.none), omega arith, omega arith)

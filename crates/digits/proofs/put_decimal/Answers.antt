@@ -1,15 +1,18 @@
-use borrow.Author.Rules.{rules}
-use Rattle.digits.proofs.Decimals.{digits_start, digits_down, digits_turn, digits_end}
+use Rattle.std.proofs.Common.{arith}
+use Rattle.digits.proofs.Decimals.{digits_start, digits_turn, digits_last, digits_end}
 use Rattle.digits.proofs.put_decimal.Goals as goal
 
-pub loop-rest-init : goal.loop-rest-init
-loop-rest-init c = search digits_start
+pub loop-i-init : goal.loop-i-init
+loop-i-init c = digits_start _ _ _ _ (omega arith) c.count.ensures.0 c.requires
 
-pub overflow_sub-i-in-loop-rest : goal.overflow_sub-i-in-loop-rest
-overflow_sub-i-in-loop-rest c = search digits_down
+pub loop-i-preserved : goal.loop-i-preserved
+loop-i-preserved c = search digits_turn
 
-pub loop-rest-preserved : goal.loop-rest-preserved
-loop-rest-preserved c = search digits_turn
+pub overflow_cast-out-2 : goal.overflow_cast-out-2
+overflow_cast-out-2 c = record { fits = omega (arith, digits_last _ _ _ _ _ _ c.loop-i.invariant c.loop-i-test.false) }
 
-pub returns : goal.returns
-returns c = record { wrote = search digits_end; short = search rules }
+pub overflow_add-out-2 : goal.overflow_add-out-2
+overflow_add-out-2 c = record { fits = omega (arith, digits_last _ _ _ _ _ _ c.loop-i.invariant c.loop-i-test.false) }
+
+pub returns-clause-wrote : goal.returns-clause-wrote
+returns-clause-wrote c = digits_end _ _ _ _ _ _ c.loop-i.invariant _ c.loop-i-test.false c.count.ensures.0

@@ -1,30 +1,28 @@
-use Rattle.making.proofs.Done.{refuses, slot_low, next_small, run_inside, frames_small}
-use Rattle.enrolling.proofs.Enrolled.{enrol_decides, number_low, place_low, allowance_fits, list_fits, enrol_done}
+use mathlib.Core.Path.{refl}
+use Rattle.making.proofs.Done.{refuses, slot_low, next_low, run_inside, frames_small}
+use Rattle.enrolling.proofs.Enrolled.{enrol_decides, number_low, place_low, allowance_fits, list_fits, enrol_done, enrol_sound}
 use Rattle.enrolling.proofs.enrol.Goals as goal
 
 pub decide-requires : goal.decide-requires
-decide-requires c = search frames_small
+decide-requires c = search (frames_small, c.args.s.now.held)
 
-pub clear-requires : goal.clear-requires
-clear-requires c = search (run_inside, enrol_decides)
-
-pub overflow_sub-at : goal.overflow_sub-at
-overflow_sub-at c = search number_low
+pub overflow_sub-caller : goal.overflow_sub-caller
+overflow_sub-caller c = search number_low
 
 pub new_guest-requires : goal.new_guest-requires
 new_guest-requires c = (search allowance_fits, search list_fits)
 
-pub bounds-s-at : goal.bounds-s-at
-bounds-s-at c = search place_low
+pub bounds-s-caller : goal.bounds-s-caller
+bounds-s-caller c = search place_low
 
-pub overflow_add-s : goal.overflow_add-s
-overflow_add-s c = search (next_small, enrol_decides)
+pub settle-requires : goal.settle-requires
+settle-requires c = (search (slot_low, enrol_decides), search (next_low, enrol_decides), search (run_inside, enrol_decides))
 
-pub bounds-s-slot : goal.bounds-s-slot
-bounds-s-slot c = search (slot_low, enrol_decides)
+pub returns-in-Err : goal.returns-in-Err
+returns-in-Err c = record { same_state = refl; carried = search (refuses, enrol_decides) }
 
-pub returns-in-Refused : goal.returns-in-Refused
-returns-in-Refused c = search (refuses, enrol_decides)
+pub returns-in-Ok : goal.returns-in-Ok
+returns-in-Ok c = record { same_state = refl; carried = search (enrol_done, c.args.s.now.held) }
 
-pub returns-in-At : goal.returns-in-At
-returns-in-At c = search enrol_done
+pub invariant_of-s : goal.invariant_of-s
+invariant_of-s c = record { held = search (enrol_sound, c.args.s.now.held) }

@@ -1,7 +1,8 @@
-use Rattle.digits.proofs.Writing.{wrote_more}
-use Rattle.failures.specs.Message.{failure_text}
+use Rattle.failures.proofs.Message.{reading_told, writing_told}
 use Rattle.failures.proofs.put_failure.Goals as goal
 
-pub returns-clause-wrote : goal.returns-clause-wrote
-unfolding failure_text
-returns-clause-wrote c = search wrote_more
+pub returns-in-Reading-clause-adds : goal.returns-in-Reading-clause-adds
+returns-in-Reading-clause-adds c = search reading_told
+
+pub returns-in-Writing-clause-adds : goal.returns-in-Writing-clause-adds
+returns-in-Writing-clause-adds c = search writing_told

@@ -1,12 +1,10 @@
-use Rattle.std.proofs.Common.{arith}
-use Rattle.fields.proofs.HexDigits.{hexes}
+use Rattle.std.proofs.Common.{arith, rules}
+use borrow.Author.Tests.{not-false, not-true}
+use Rattle.fields.proofs.HexDigits.{hex_until}
 use Rattle.fields.proofs.all_hex.Goals as goal
 
-pub returns-then-one_if_other-gt0 : goal.returns-then-one_if_other-gt0
-returns-then-one_if_other-gt0 c = search (hexes, arith)
-
-pub loop-i-preserved : goal.loop-i-preserved
-loop-i-preserved c = search (hexes, arith)
-
 pub returns : goal.returns
-returns c = search (hexes, arith)
+returns c =
+    hex_until _ _ (omega arith)
+    (λ k l. let f = c.find_by.ensures.before k (omega arith) l in search (rules, not-false, not-true))
+    (λ l. let f = c.find_by.ensures.found l in search (rules, not-false, not-true))

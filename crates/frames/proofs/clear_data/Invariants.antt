@@ -1,7 +1,7 @@
--- The loop has cleared the frames of the guest's data spaces in the slots below u.
+-- The loop has cleared the frames of the guest's data spaces in the slots below the one that it comes to.
 use Prim.Native.Nat.{◌≤◌}
 use Rattle.frames.proofs.Freeing.{ClearedBelow}
 use Rattle.frames.proofs.clear_data.Given as goal
 
-abbrev pub invariant-loop-u : goal.invariant-loop-u
-invariant-loop-u l = (l.u ≤ 32) × ClearedBelow l.spaces l.guest l.initial.scratch l.u l.scratch
+abbrev pub invariant-loop-x : goal.invariant-loop-x
+invariant-loop-x l = (l.x-index ≤ 32) × ClearedBelow l.spaces l.guest l.initial.scratch l.x-index l.scratch

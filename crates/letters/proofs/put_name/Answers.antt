@@ -1,5 +1,6 @@
-use Rattle.letters.proofs.Texts.{name_written}
+use Rattle.std.proofs.Common.{arith}
+use Rattle.letters.proofs.Blanks.{name_short}
 use Rattle.letters.proofs.put_name.Goals as goal
 
-pub returns : goal.returns
-returns c = search name_written
+pub put_bytes-requires : goal.put_bytes-requires
+put_bytes-requires c = omega (arith, name_short _ c.bytes_of.ensures c.unpadded.ensures)

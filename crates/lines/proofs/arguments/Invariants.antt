@@ -1,10 +1,5 @@
-use mathlib.Core.Path.{◌≡◌}
-use lib.ListN.{length}
 use Rattle.lines.proofs.Taken.{Taken}
 use Rattle.lines.proofs.arguments.Given as goal
 
-abbrev pub invariant-loop-kinds : goal.invariant-loop-kinds
-invariant-loop-kinds l = (length l.values ≡ length l.initial.values) × Taken l.line l.place l.first l.values l.kinds l.end l.k
-
-abbrev pub decreases-loop-kinds : goal.decreases-loop-kinds
-decreases-loop-kinds l = l.kinds
+abbrev pub invariant-loop-k : goal.invariant-loop-k
+invariant-loop-k l = Taken l.line l.place l.first l.kind-items l.values l.end l.k

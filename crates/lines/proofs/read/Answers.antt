@@ -1,23 +1,21 @@
-use Rattle.model.specs.Lines.{forms}
-use Rattle.lines.proofs.Line.{line_long, line_unnamed, line_ends, line_unknown, line_known, line_data}
-use Rattle.lines.proofs.Taken.{unread_is, unread_data}
-use borrow.Author.Rules.{rules}
+use Rattle.std.proofs.Common.{ap, ◌∙◌}
+use Rattle.std.specs.Option.{unwrap_or}
+use Rattle.model.specs.declared.Request.TheVariants.{NotRead}
+use Rattle.lines.proofs.Line.{line_long, line_unnamed, line_ends, line_unknown, line_call, line_known}
 use Rattle.lines.proofs.read.Goals as goal
 
 pub returns-then-line-gt600 : goal.returns-then-line-gt600
-returns-then-line-gt600 c = (search (unread_is, line_long), search unread_data)
+returns-then-line-gt600 c = search line_long
 
-pub returns-in_default : goal.returns-in_default
-returns-in_default c = (search (unread_is, line_unnamed), search unread_data)
+pub returns-in_err-name : goal.returns-in_err-name
+returns-in_err-name c = ap (λ o. unwrap_or o NotRead) c.from_residual.ensures ∙ line_unnamed _ c.if-line-gt600.false c.in_err-name.ensures
 
-pub returns-then-place-ge-CALLS : goal.returns-then-place-ge-CALLS
-unfolding forms
-returns-then-place-ge-CALLS c = (search (unread_is, line_unknown), search unread_data)
+pub returns-in_err-place : goal.returns-in_err-place
+returns-in_err-place c =
+    ap (λ o. unwrap_or o NotRead) c.from_residual-in_err-place.ensures ∙ line_unknown _ c.if-line-gt600.false _ c.in_ok-name.ensures c.in_err-place.ensures
 
 pub arguments-requires : goal.arguments-requires
-unfolding forms
-arguments-requires c = (search rules, search rules, search line_ends)
+arguments-requires c = (line_call _ c.if-line-gt600.false _ c.in_ok-name.ensures c.type_inv.line _ c.in_ok-place.ensures, line_ends _ c.if-line-gt600.false _ c.in_ok-name.ensures)
 
 pub returns : goal.returns
-unfolding forms
-returns c = (search line_known, search line_data)
+returns c = line_known _ c.if-line-gt600.false _ c.in_ok-name.ensures c.type_inv.line _ c.in_ok-place.ensures _ c.arguments.ensures

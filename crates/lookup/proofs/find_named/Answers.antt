@@ -1,19 +1,11 @@
-use mathlib.Core.Path.{refl}
-use native.Mathlib.Omega.{arith}
-use Rattle.lists.specs.Places.{lowest}
-use Rattle.lists.proofs.Rules.{loops}
-use Rattle.model.specs.Searches.{slot_named}
+use Rattle.std.proofs.Common.{rules, tests}
+use Rattle.std.proofs.lemmas.Iterator.{YieldsList-from_slice}
+use Rattle.std.proofs.lemmas.Iterator.Search.{position_from_yields_List}
+use Rattle.model.specs.Searches.{is_named}
+use Rattle.lookup.proofs.Found.{named_found}
 use Rattle.lookup.proofs.find_named.Goals as goal
 
-pub loop-u-init : goal.loop-u-init
-unfolding slot_named lowest
-loop-u-init c = (omega arith, refl)
-
-pub returns-then-is_named : goal.returns-then-is_named
-returns-then-is_named c = search loops depth 8
-
-pub loop-u-preserved : goal.loop-u-preserved
-loop-u-preserved c = search loops depth 8
-
 pub returns : goal.returns
-returns c = search loops depth 8
+returns c =
+    named_found c.args.spaces.now (search rules) c.args.owner c.args.name _
+    (position_from_yields_List (is_named c.args.owner c.args.name) _ _ _ c.position.ensures.ran (YieldsList-from_slice _ c.iter.ensures.rest) (λ x b q k. search (rules, tests)))

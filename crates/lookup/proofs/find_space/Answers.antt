@@ -1,19 +1,11 @@
-use mathlib.Core.Path.{refl}
-use native.Mathlib.Omega.{arith}
-use Rattle.lists.specs.Places.{lowest}
-use Rattle.lists.proofs.Rules.{loops}
-use Rattle.model.specs.Searches.{slot_of}
+use Rattle.std.proofs.Common.{rules, tests}
+use Rattle.std.proofs.lemmas.Iterator.{YieldsList-from_slice}
+use Rattle.std.proofs.lemmas.Iterator.Search.{position_from_yields_List}
+use Rattle.model.specs.Searches.{is_space}
+use Rattle.lookup.proofs.Found.{space_found}
 use Rattle.lookup.proofs.find_space.Goals as goal
 
-pub loop-u-init : goal.loop-u-init
-unfolding slot_of lowest
-loop-u-init c = (omega arith, refl)
-
-pub returns-then-is_space : goal.returns-then-is_space
-returns-then-is_space c = search loops depth 8
-
-pub loop-u-preserved : goal.loop-u-preserved
-loop-u-preserved c = search loops depth 8
-
 pub returns : goal.returns
-returns c = search loops depth 8
+returns c =
+    space_found c.args.spaces.now (search rules) c.args.id _
+    (position_from_yields_List (is_space c.args.id) _ _ _ c.position.ensures.ran (YieldsList-from_slice _ c.iter.ensures.rest) (λ x b q k. search (rules, tests)))

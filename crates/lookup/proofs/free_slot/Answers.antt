@@ -1,19 +1,12 @@
-use mathlib.Core.Path.{refl}
-use native.Mathlib.Omega.{arith}
-use Rattle.lists.specs.Places.{lowest}
-use Rattle.lists.proofs.Rules.{loops, tests}
-use Rattle.model.specs.Searches.{free_slot}
+use Rattle.std.proofs.Common.{rules, tests}
+use Rattle.std.proofs.lemmas.Iterator.{YieldsList-from_slice}
+use Rattle.std.proofs.lemmas.Iterator.Search.{position_from_yields_List}
+use mathlib.Core.Bool.{not}
+use Rattle.model.specs.Tables.{live}
+use Rattle.lookup.proofs.Found.{free_found}
 use Rattle.lookup.proofs.free_slot.Goals as goal
 
-pub loop-u-init : goal.loop-u-init
-unfolding free_slot lowest
-loop-u-init c = (omega arith, refl)
-
-pub returns-then-x-eq0 : goal.returns-then-x-eq0
-returns-then-x-eq0 c = search (loops, tests) depth 8
-
-pub loop-u-preserved : goal.loop-u-preserved
-loop-u-preserved c = search (loops, tests) depth 8
-
 pub returns : goal.returns
-returns c = search (loops, tests) depth 8
+returns c =
+    free_found c.args.spaces.now (search rules) _
+    (position_from_yields_List (λ x. not (live x)) _ _ _ c.position.ensures.ran (YieldsList-from_slice _ c.iter.ensures.rest) (λ x b q k. search (rules, tests)))

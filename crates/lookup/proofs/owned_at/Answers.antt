@@ -7,9 +7,9 @@ pub returns-then-u-ge32 : goal.returns-then-u-ge32
 unfolding owned_at
 returns-then-u-ge32 c = search (tests, rules) depth 8
 
-pub returns-then-x-guest : goal.returns-then-x-guest
+pub returns-then-from-guest : goal.returns-then-from-guest
 unfolding owned_at
-returns-then-x-guest c = search (tests, rules) depth 8
+returns-then-from-guest c = search (tests, rules) depth 8
 
 pub returns : goal.returns
 unfolding owned_at

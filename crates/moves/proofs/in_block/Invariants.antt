@@ -1,8 +1,5 @@
-use Prim.Native.Nat.{◌+◌}
-use lib.Dec.{eqb}
-use lib.ListN.{get_or}
-use Rattle.lists.proofs.Counting.{Counting}
+use Rattle.std.proofs.Common.{ℕ, false, ◌+◌, ◌≤◌, ◌<◌, ◌≡◌, get_or}
 use Rattle.moves.proofs.in_block.Given as goal
 
 abbrev pub invariant-loop-k : goal.invariant-loop-k
-invariant-loop-k l = Counting (λ j. eqb (get_or l.bytes (l.i + j) 0) l.b) l.n l.k
+invariant-loop-k g l = (l.n ≤ l.k) × (l.n ≡ 0 → (j : ℕ) → j < l.k → goal.F-post g l.passes (get_or l.bytes (l.i + j) 0) false)

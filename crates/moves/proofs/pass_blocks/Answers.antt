@@ -1,13 +1,6 @@
-use mathlib.Core.Path.{refl}
-use native.Mathlib.Omega.{arith}
-use Rattle.moves.proofs.Blocks.{block_go}
+use Rattle.std.proofs.Common.{arith}
+use Rattle.moves.proofs.Blocks.{block_more}
 use Rattle.moves.proofs.pass_blocks.Goals as goal
 
-pub loop-i-init : goal.loop-i-init
-loop-i-init c = (omega arith, omega arith, refl)
-
-pub in_block-requires : goal.in_block-requires
-in_block-requires c = omega arith
-
 pub loop-i-preserved : goal.loop-i-preserved
-loop-i-preserved c = search (block_go, arith)
+loop-i-preserved g c = (omega arith, omega arith, block_more _ _ _ 64 c.loop-i.invariant.2 (c.in_block.ensures (omega arith)))

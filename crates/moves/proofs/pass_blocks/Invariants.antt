@@ -1,11 +1,9 @@
-use Prim.Native.Nat.{◌-◌, ◌≤◌}
-use mathlib.Core.Path.{◌≡◌}
-use lib.ListN.{length}
-use Rattle.moves.specs.Found.{byte_from}
+use Rattle.std.proofs.Common.{ℕ, false, ◌-◌, ◌≤◌, ◌<◌, length, get_or}
 use Rattle.moves.proofs.pass_blocks.Given as goal
 
 abbrev pub invariant-loop-i : goal.invariant-loop-i
-invariant-loop-i l = (l.from ≤ l.i) × (l.i ≤ length l.bytes) × (byte_from l.b l.bytes l.from ≡ byte_from l.b l.bytes l.i)
+invariant-loop-i g l =
+    (l.from ≤ l.i) × (l.i ≤ length l.bytes) × ((k : ℕ) → l.from ≤ k → k < l.i → goal.F-post g l.passes (get_or l.bytes k 0) false)
 
 abbrev pub decreases-loop-i : goal.decreases-loop-i
-decreases-loop-i l = length l.bytes - l.i
+decreases-loop-i g l = length l.bytes - l.i

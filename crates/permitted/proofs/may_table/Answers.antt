@@ -3,7 +3,7 @@ use Rattle.permitted.proofs.Tables.{may_start, may_go, may_row, may_enter, may_e
 use Rattle.permitted.proofs.may_table.Goals as goal
 
 pub loop-i-init : goal.loop-i-init
-loop-i-init c = (omega arith, may_start c.args.guests)
+loop-i-init c = (omega arith, may_start _)
 
 pub loop-k-init : goal.loop-k-init
 loop-k-init c = search (may_enter, arith)

@@ -1,15 +1,13 @@
-use borrow.Author.Rules.{rules}
-use Rattle.replies.proofs.Values.{argument_value, refused_value, no_call_value, call_value}
+use Rattle.std.proofs.Common.{rules}
+use Rattle.replies.proofs.Values.{done_value, argument_value, refused_value}
 use Rattle.replies.proofs.put_value.Goals as goal
 
-pub returns-then-names_argument : goal.returns-then-names_argument
-returns-then-names_argument c = record { wrote = search argument_value; short = search rules }
+pub returns-in-Done-clause-adds : goal.returns-in-Done-clause-adds
+returns-in-Done-clause-adds c = search done_value
 
-pub returns-then-number-ne0 : goal.returns-then-number-ne0
-returns-then-number-ne0 c = record { wrote = search refused_value; short = search rules }
+pub returns-in-Limit-clause-adds : goal.returns-in-Limit-clause-adds
+returns-in-Limit-clause-adds c = search argument_value
 
 pub returns-in_default : goal.returns-in_default
-returns-in_default c = record { wrote = search no_call_value; short = search rules }
-
-pub returns : goal.returns
-returns c = record { wrote = search call_value; short = search rules }
+returns-in_default c =
+    record { adds = refused_value _ _ _ (c.in_default.not-Done, c.in_default.not-Limit) c.put_byte.ensures; short = search rules }

@@ -1,5 +1,7 @@
-use Rattle.rewriting.proofs.Ending.{kept_fed}
+use Rattle.std.proofs.Common.{[]}
+use Rattle.model.specs.Session.{new_session}
+use Rattle.rewriting.proofs.AnySession.{fed_any}
 use Rattle.rewriting.proofs.feed.Goals as goal
 
 pub returns : goal.returns
-returns c = λ s. kept_fed s c.args.rewriting _ _ c.kept.ensures.0 _ _ _ _ _ _ (c.feed_lines.ensures s)
+returns c = λ s. fed_any (new_session []) s _ c.feed.new.self _ c.feed.new.held (new_session c.feed.new.scratch) _ _ _ _ _ c.feed.ensures

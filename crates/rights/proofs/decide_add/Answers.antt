@@ -1,26 +1,37 @@
-use mathlib.Core.Bool.{not}
-use mathlib.Core.Path.{ap}
+use Prim.Native.Nat.{◌+◌}
+use mathlib.Core.Path.{◌≡◌}
 use native.Mathlib.Omega.{arith}
+use borrow.Author.Tests.{le-ltb}
+use Rattle.lists.proofs.Choice.{both_no, both_not}
 use Rattle.model.specs.Calls.{enrols}
-use Rattle.edits.proofs.Kept.{decided_bad}
-use Rattle.rights.proofs.Seen.{add_none, add_not, add_full, add_done, free_byte}
+use Rattle.edits.proofs.Kept.{decided_bad, decided_err}
+use Rattle.rights.proofs.Seen.{add_none, add_not, add_full, add_done}
 use Rattle.rights.proofs.decide_add.Goals as goal
+use Rattle.rights.proofs.decide_add.Goals.{then-v-ge30-via-then-v-ge30, then-v-ge30-via-else-v-ge30+then-v}
 
-pub returns-then-at-ge8 : goal.returns-then-at-ge8
+pub returns-in_err-at : goal.returns-in_err-at
 unfolding enrols
-returns-then-at-ge8 c = search decided_bad
+returns-in_err-at c = let e = c.in_err-at.ensures in decided_err _ _ _ _ c.from_residual.ensures.1 (search decided_bad)
 
 pub returns-then-v-ge32 : goal.returns-then-v-ge32
-returns-then-v-ge32 c = search add_none
+returns-then-v-ge32 c =
+    let at = c.in_ok-at.ensures in
+    search add_none
 
 pub returns-then-not-is_entitled : goal.returns-then-not-is_entitled
-returns-then-not-is_entitled c = search add_not
+returns-then-not-is_entitled c =
+    let at = c.in_ok-at.ensures in
+    let own : c.from.result + 1 ≡ c.args.v.now.place + 1 = omega (arith, at, c.from.ensures) in
+    search add_not
 
-pub returns-then-not-has_room : goal.returns-then-not-has_room
-returns-then-not-has_room c = search add_full
-
-pub overflow_cast-result-3 : goal.overflow_cast-result-3
-overflow_cast-result-3 c = record { fits = free_byte c.args.v.place c.args.v.free _ _ (omega (arith, c.if-at-ge8.false)) c.has_room.ensures (ap not c.if-not-has_room.false) }
+pub returns-then-v-ge30 : goal.returns-then-v-ge30
+returns-then-v-ge30 c =
+    let at = c.in_ok-at.ensures in
+    let own : c.from.result + 1 ≡ c.args.v.now.place + 1 = omega (arith, at, c.from.ensures) in
+    elim c.then-v-ge30.branch [ then-v-ge30-via-then-v-ge30 w ↦ search (add_full, both_no, le-ltb) | then-v-ge30-via-else-v-ge30+then-v w ↦ search (add_full, both_not, le-ltb) ]
 
 pub returns : goal.returns
-returns c = search add_done
+returns c =
+    let at = c.in_ok-at.ensures in
+    let own : c.from.result + 1 ≡ c.args.v.now.place + 1 = omega (arith, at, c.from.ensures) in
+    search add_done

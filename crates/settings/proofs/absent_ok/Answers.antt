@@ -1,31 +1,12 @@
-use Rattle.lists.proofs.Rules.{tests}
+use Rattle.std.proofs.Common.{arith}
+use Rattle.std.proofs.lemmas.Grind.{common_steps}
+use Rattle.std.proofs.lemmas.Bool.Decides.{nat_tests}
+use lib.Dec.{eqb}
+use Rattle.lists.specs.Choice.{both}
 use Rattle.model.specs.SoundTest.{absent_test}
+use Rattle.settings.proofs.Registers.{every_list_all}
 use Rattle.settings.proofs.absent_ok.Goals as goal
 
-pub returns-then-x-ne0 : goal.returns-then-x-ne0
-unfolding absent_test
-returns-then-x-ne0 c = search tests depth 10
-
-pub returns-then-x : goal.returns-then-x
-unfolding absent_test
-returns-then-x c = search tests depth 10
-
-pub returns-then-x-ne0-2 : goal.returns-then-x-ne0-2
-unfolding absent_test
-returns-then-x-ne0-2 c = search tests depth 10
-
-pub returns-then-x-2 : goal.returns-then-x-2
-unfolding absent_test
-returns-then-x-2 c = search tests depth 10
-
-pub returns-then-c : goal.returns-then-c
-unfolding absent_test
-returns-then-c c = search tests depth 10
-
-pub returns-then-c-ne0 : goal.returns-then-c-ne0
-unfolding absent_test
-returns-then-c-ne0 c = search tests depth 10
-
-pub returns : goal.returns
-unfolding absent_test
-returns c = search tests depth 10
+pub returns-then-c-eq0 : goal.returns-then-c-eq0
+unfolding absent_test both
+returns-then-c-eq0 c = let e = every_list_all (λ r. eqb r 0) c.args.c.registers 16 (omega arith) in grind (arith, nat_tests, common_steps)

@@ -1,14 +1,9 @@
-use borrow.Author.Rules.{rules}
-use Rattle.lists.proofs.Rules.{tests}
-use Rattle.calls.proofs.Ready.{ready_sound}
-use Rattle.spaces.proofs.Ready.{refuses_with, changes_tables}
+use Rattle.std.proofs.Common.{rules}
+use Rattle.model.specs.declared.Operation.TheVariants.{Add}
+use Rattle.spaces.proofs.Ready.{checks, told}
 use Rattle.spaces.proofs.add.Goals as goal
 
-pub returns-then-not-is_ready : goal.returns-then-not-is_ready
-returns-then-not-is_ready c = search (refuses_with, tests)
-
-pub add-requires : goal.add-requires
-add-requires c = search (rules, tests, ready_sound)
-
 pub returns : goal.returns
-returns c = search (changes_tables, tests)
+returns c =
+    checks _ _ (Add c.args.id c.args.right) _ _ tt tt tt c.checked.ensures.unready
+    (λ t. let h = c.checked.ensures.made t in let r = h.2 in let e = r.met in told r.shows r.leaves h.3 h.4 (search rules))

@@ -1,4 +1,3 @@
-use borrow.Author.Rules.{rules}
 use Rattle.lists.proofs.Rules.{tests}
 use Rattle.calls.proofs.Ready.{ready_sound, refuses}
 use Rattle.spaces.proofs.Ready.{asks}
@@ -7,8 +6,8 @@ use Rattle.spaces.proofs.query.Goals as goal
 pub returns-then-not-is_ready : goal.returns-then-not-is_ready
 returns-then-not-is_ready c = search (refuses, tests)
 
-pub query-requires : goal.query-requires
-query-requires c = search (rules, tests, ready_sound)
+pub invariant_of-query : goal.invariant_of-query
+invariant_of-query c = record { held = search (ready_sound, tests) }
 
 pub returns : goal.returns
 returns c = search (asks, tests)

@@ -1,11 +1,31 @@
-use Rattle.turns.proofs.Changing.{waits_room, waits_sound, waits_part, waits_asks, carried}
+use mathlib.Core.Path.{sym}
+use Rattle.turns.proofs.Filled.{part_within, part_long}
+use Rattle.turns.proofs.Turned.{early, unready, call_room, call_sound, call_part, carried_taken}
 use Rattle.turns.proofs.carry.Goals as goal
 
-pub slice_bounds-serve_whole-end : goal.slice_bounds-serve_whole-end
-slice_bounds-serve_whole-end c = search waits_room
+pub returns-then-not-host-clause-taken : goal.returns-then-not-host-clause-taken
+returns-then-not-host-clause-taken c = search early
 
-pub serve_whole-r-requires : goal.serve_whole-r-requires
-serve_whole-r-requires c = (search waits_sound, search waits_part, search waits_asks)
+pub returns-then-not-host-2-clause-taken : goal.returns-then-not-host-2-clause-taken
+returns-then-not-host-2-clause-taken c = search unready
 
-pub returns : goal.returns
-returns c = search carried
+pub slice_bounds-serve-end : goal.slice_bounds-serve-end
+slice_bounds-serve-end c = search call_room
+
+pub slice_bounds-serve-end-2 : goal.slice_bounds-serve-end-2
+slice_bounds-serve-end-2 c = search call_part
+
+pub slice_bounds-serve-end-3 : goal.slice_bounds-serve-end-3
+slice_bounds-serve-end-3 c = search part_within
+
+pub slice_bounds-serve-end-4 : goal.slice_bounds-serve-end-4
+slice_bounds-serve-end-4 c = search part_long
+
+pub serve-answer-requires : goal.serve-answer-requires
+serve-answer-requires c = sym (search call_part)
+
+pub returns-clause-taken : goal.returns-clause-taken
+returns-clause-taken c = search carried_taken
+
+pub invariant_of-serve : goal.invariant_of-serve
+invariant_of-serve c = record { held = search call_sound }

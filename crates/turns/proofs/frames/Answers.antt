@@ -1,11 +1,11 @@
-use Rattle.turns.proofs.Changing.{frames_again, frames_out, frames_done}
+use Rattle.turns.proofs.Turned.{frames_again, frames_out, frames_done}
 use Rattle.turns.proofs.frames.Goals as goal
 
-pub returns-then-h : goal.returns-then-h
-returns-then-h c = search frames_again
+pub returns-then-host-clause-taken : goal.returns-then-host-clause-taken
+returns-then-host-clause-taken c = search frames_again
 
-pub returns-then-not-good_frames : goal.returns-then-not-good_frames
-returns-then-not-good_frames c = search frames_out
+pub returns-then-not-good_frames-clause-taken : goal.returns-then-not-good_frames-clause-taken
+returns-then-not-good_frames-clause-taken c = search frames_out
 
-pub returns : goal.returns
-returns c = search frames_done
+pub returns-clause-taken : goal.returns-clause-taken
+returns-clause-taken c = search frames_done

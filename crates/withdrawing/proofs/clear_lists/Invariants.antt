@@ -9,4 +9,4 @@ use Rattle.model.specs.Leaves.{flag}
 use Rattle.withdrawing.proofs.clear_lists.Given as goal
 
 abbrev pub invariant-loop-k : goal.invariant-loop-k
-invariant-loop-k l = (l.k ≤ 240) × (l.t ≡ map_below (λ j e. choose (eqb (list_owner j) l.guest) (released e) (revoked (flag l.closed) e)) l.k l.initial.t)
+invariant-loop-k l = (l.k ≤ 240) × (l.entries ≡ map_below (λ j e. choose (eqb (list_owner j) l.guest) (released e) (revoked (flag l.closed) e)) l.k l.initial.entries)

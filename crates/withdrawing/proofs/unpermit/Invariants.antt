@@ -9,4 +9,4 @@ use Rattle.model.specs.Tables.{no_permit}
 use Rattle.withdrawing.proofs.unpermit.Given as goal
 
 abbrev pub invariant-loop-k : goal.invariant-loop-k
-invariant-loop-k l = (l.k ≤ 256) × (l.t ≡ map_below (λ j p. choose (flag l.closed (permit_slot j)) no_permit p) l.k l.initial.t)
+invariant-loop-k l = (l.k ≤ 256) × (l.permits ≡ map_below (λ j p. choose (flag l.closed (permit_slot j)) no_permit p) l.k l.initial.permits)

@@ -7,5 +7,5 @@ use Rattle.model.specs.Searches.{is_data}
 use Rattle.model.specs.Tables.{no_space}
 use Rattle.withdrawing.proofs.vacate.Given as goal
 
-abbrev pub invariant-loop-u : goal.invariant-loop-u
-invariant-loop-u l = (l.u ≤ 32) × (l.t ≡ map_below (λ v x. choose (is_data l.guest x) no_space x) l.u l.initial.t)
+abbrev pub invariant-loop-x : goal.invariant-loop-x
+invariant-loop-x l = (l.x-index ≤ 32) × (l.spaces ≡ map_below (λ v x. choose (is_data l.guest x) no_space x) l.x-index l.initial.spaces)

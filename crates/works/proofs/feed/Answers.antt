@@ -1,13 +1,5 @@
-use Rattle.works.specs.Fed.{feed_by}
-use Rattle.works.proofs.Standing.{fed_answering, fed_rewriting}
+use Rattle.model.specs.Session.{new_session}
 use Rattle.works.proofs.feed.Goals as goal
 
-pub returns-then-work : goal.returns-then-work
-returns-then-work c =
-    let a = c.args in
-    fed_rewriting a.work a.held.now a.scratch.now _ _ _ _ _ _ c.if-work.true (c.feed-fed.ensures (feed_by a.work a.held.now a.scratch.now).session)
-
-pub returns : goal.returns
-returns c =
-    let a = c.args in
-    fed_answering a.work a.held.now a.scratch.now _ _ _ _ _ _ c.if-work.false c.feed-fed-2.ensures
+pub returns-in-Rewriting : goal.returns-in-Rewriting
+returns-in-Rewriting c = rw c.in-Rewriting.is (c.feed-in-Rewriting.ensures (new_session c.args.scratch.now))

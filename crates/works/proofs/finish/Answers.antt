@@ -1,13 +1,8 @@
-use Rattle.works.specs.Fed.{feed_by}
-use Rattle.works.proofs.Standing.{end_answering, end_rewriting}
+use Rattle.std.proofs.Common.{[], arith}
+use Rattle.std.proofs.lemmas.Bool.{some_since}
+use Rattle.model.specs.Session.{new_session}
+use Rattle.feeds.proofs.Bounds.{undone_room}
 use Rattle.works.proofs.finish.Goals as goal
 
-pub returns-then-work : goal.returns-then-work
-returns-then-work c =
-    let a = c.args in
-    end_rewriting a.work a.held.now a.scratch.now _ _ _ _ _ c.if-work.true (c.finish-last.ensures (feed_by a.work a.held.now a.scratch.now).session) c.requires
-
-pub returns : goal.returns
-returns c =
-    let a = c.args in
-    end_answering a.work a.held.now a.scratch.now _ _ _ _ _ c.if-work.false c.finish-last-2.ensures c.requires
+pub unwrap-requires-in-Rewriting : goal.unwrap-requires-in-Rewriting
+unwrap-requires-in-Rewriting c = some_since _ _ _ c.finish-in-Rewriting.ensures (λ f. let few = undone_room (f (new_session [])) in omega (arith, few))

@@ -1,21 +1,21 @@
-use Rattle.lists.specs.Choice.{both}
-use Rattle.lists.specs.Places.{every, all_from}
-use Rattle.model.specs.Lines.{forms}
-use Rattle.writing.proofs.Remaining.{putting_start, putting_room, putting_takes, putting_fits, putting_more, putting_end}
+use Rattle.std.proofs.Common.{inl, inr}
+use Rattle.writing.proofs.Remaining.{putting_start, putting_room, putting_takes, putting_more, putting_end, putting_few}
 use Rattle.writing.proofs.put_fields.Goals as goal
 
-pub loop-kinds-init : goal.loop-kinds-init
-unfolding forms every all_from both
-loop-kinds-init c = search putting_start
+pub loop-kind-init : goal.loop-kind-init
+loop-kind-init c = putting_start _ _ _ _ _ _ (cc) (cc) c.requires.room c.requires.taken
 
-pub bounds-values-k : goal.bounds-values-k
-bounds-values-k c = search putting_room
+pub put_next-requires-clause-room : goal.put_next-requires-clause-room
+put_next-requires-clause-room c = let next = c.in-Some.ensures.steps in putting_room c.loop-kind.invariant _ _ _ _ next.0 next.1
 
-pub put_next-at-requires : goal.put_next-at-requires
-put_next-at-requires c = (search putting_fits, search putting_takes)
+pub put_next-requires-clause-taken : goal.put_next-requires-clause-taken
+put_next-requires-clause-taken c = let next = c.in-Some.ensures.steps in putting_takes c.loop-kind.invariant _ _ _ _ next.0 next.1
 
-pub loop-kinds-preserved : goal.loop-kinds-preserved
-loop-kinds-preserved c = search putting_more
+pub loop-kind-preserved : goal.loop-kind-preserved
+loop-kind-preserved c =
+    let next = c.in-Some.ensures.steps in putting_more c.loop-kind.invariant _ _ _ _ next.0 next.1 _ c.put_next.ensures
 
 pub returns : goal.returns
-returns c = search putting_end
+returns c =
+    putting_end c.loop-kind.invariant
+    (elim c.in-None.ensures.steps [ inl e ↦ e.1.0 | inr e ↦ putting_few c.loop-kind.invariant e.1.0 ])

@@ -1,8 +1,5 @@
 use Rattle.writing.proofs.Remaining.{Putting}
 use Rattle.writing.proofs.put_fields.Given as goal
 
-abbrev pub invariant-loop-kinds : goal.invariant-loop-kinds
-invariant-loop-kinds l = Putting l.initial.out l.start l.form l.values l.lent l.out l.at l.kinds l.k
-
-abbrev pub decreases-loop-kinds : goal.decreases-loop-kinds
-decreases-loop-kinds l = l.kinds
+abbrev pub invariant-loop-kind : goal.invariant-loop-kind
+invariant-loop-kind l = Putting l.initial.text l.kinds l.values l.lent l.text l.kind-iterator.a.rest.now l.kind-iterator.b.rest.now

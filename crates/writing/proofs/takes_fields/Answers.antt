@@ -1,22 +1,19 @@
-use borrow.Author.Tests.{not-true, not-false}
-use Rattle.lists.specs.Choice.{both}
-use Rattle.lists.specs.Places.{every, all_from}
-use Rattle.model.specs.Lines.{forms}
-use Rattle.writing.proofs.Remaining.{taking_start, taking_room, taking_stop, taking_more, taking_end}
+use Rattle.std.proofs.Common.{arith, ap, inl, inr, length}
+use Rattle.writing.proofs.Remaining.{taking_stop, taking_more, taking_end}
 use Rattle.writing.proofs.takes_fields.Goals as goal
 
-pub loop-kinds-init : goal.loop-kinds-init
-unfolding forms every all_from both
-loop-kinds-init c = search taking_start
-
-pub bounds-values-k : goal.bounds-values-k
-bounds-values-k c = search taking_room
-
 pub returns-then-not-takes_field : goal.returns-then-not-takes_field
-returns-then-not-takes_field c = search (taking_stop, not-true)
+returns-then-not-takes_field c =
+    let next = c.in-Some.ensures.steps in
+    taking_stop _ _ _ _ c.loop-kind.invariant.1 _ _ _ _ next.0 next.1 c.takes_field.ensures c.if-not-takes_field.true
 
-pub loop-kinds-preserved : goal.loop-kinds-preserved
-loop-kinds-preserved c = search (taking_more, not-false)
+pub loop-kind-preserved : goal.loop-kind-preserved
+loop-kind-preserved c =
+    let next = c.in-Some.ensures.steps in (
+      omega (arith, ap length next.0, ap length next.1),
+      taking_more _ _ _ _ c.loop-kind.invariant.1 _ _ _ _ next.0 next.1 c.takes_field.ensures c.if-not-takes_field.false,
+    )
 
 pub returns : goal.returns
-returns c = search taking_end
+returns c =
+    taking_end _ _ _ _ c.loop-kind.invariant.1 (elim c.in-None.ensures.steps [ inl e ↦ e.1.0 | inr e ↦ omega (arith, e.1.0) ])

@@ -3,4 +3,4 @@ use Rattle.apart.proofs.Rings.{Filling}
 use Rattle.apart.proofs.quick.surely_apart.Given as goal
 
 abbrev pub invariant-loop-u : goal.invariant-loop-u
-invariant-loop-u l = Filling (ids_of l.spaces) l.u l.ids × Filling (names_of l.spaces) l.u l.names × Filling (firsts_of l.spaces) l.u l.firsts × Filling (ends_of l.spaces) l.u l.ends
+invariant-loop-u l = Filling (ids_of l.spaces) l.u l.columns.ids × Filling (names_of l.spaces) l.u l.columns.names × Filling (firsts_of l.spaces) l.u l.columns.firsts × Filling (ends_of l.spaces) l.u l.columns.ends

@@ -1,6 +1,4 @@
-use mathlib.Core.Bool.{not}
-use mathlib.Core.Path.{ap}
-use native.Mathlib.Omega.{arith}
+use Rattle.std.proofs.Common.{rules}
 use Rattle.sound.proofs.GuestLoop.{guests_start, guests_go, guests_stop, guests_done}
 use Rattle.sound.proofs.guests.guests_ok.Goals as goal
 
@@ -8,10 +6,10 @@ pub loop-k-init : goal.loop-k-init
 loop-k-init c = search guests_start
 
 pub returns-then-not-guest_ok : goal.returns-then-not-guest_ok
-returns-then-not-guest_ok c = search guests_stop
+returns-then-not-guest_ok c = search (guests_stop, rules)
 
 pub loop-k-preserved : goal.loop-k-preserved
-loop-k-preserved c = guests_go _ _ _ _ _ c.loop-k.invariant _ (omega arith) c.guest_ok.ensures (ap not c.if-not-guest_ok.false)
+loop-k-preserved c = search (guests_go, rules)
 
 pub returns : goal.returns
-returns c = search guests_done
+returns c = search (guests_done, rules)

@@ -1,5 +1,5 @@
-use Rattle.sound.proofs.GuestLoop.{Guests}
+use Rattle.sound.proofs.GuestLoop.{Passed}
 use Rattle.sound.proofs.guests.guests_ok.Given as goal
 
 abbrev pub invariant-loop-k : goal.invariant-loop-k
-invariant-loop-k l = Guests l.tags l.counts l.guests l.cpus l.k
+invariant-loop-k l = Passed l.tags l.counts l.guests l.cpus l.k

@@ -1,7 +1,0 @@
-use Prim.Native.Nat.{◌+◌}
-use Rattle.apart.specs.Warns.{ClearAt}
-use Rattle.apart.proofs.Warns.{Sum}
-use Rattle.apart.proofs.quick.clashes.Given as goal
-
-abbrev pub invariant-loop-d : goal.invariant-loop-d
-invariant-loop-d l = Sum (λ k. ClearAt l.ids l.names l.firsts l.ends (k + 1)) 96 16 l.d l.n

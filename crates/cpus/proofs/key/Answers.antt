@@ -1,5 +1,0 @@
-use Rattle.edits.proofs.Kept.{seen_carried}
-use Rattle.cpus.proofs.key.Goals as goal
-
-pub returns : goal.returns
-returns c = search seen_carried

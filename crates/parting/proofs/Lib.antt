@@ -1,2 +1,0 @@
--- Laws of requests taken apart.
-pub mod Parting

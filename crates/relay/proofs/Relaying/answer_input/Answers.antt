@@ -1,0 +1,39 @@
+use Rattle.std.proofs.Common.{rules, refl, arith, length-take}
+use Rattle.std.proofs.lemmas.Result.{err_from_is_err_and}
+use Rattle.descriptors.proofs.Came.{got_count}
+use Rattle.relay.proofs.Endings.{left_unread}
+use Rattle.relay.proofs.Joined.{came_start, came_more, came_fail, came_stop, came_taken, came_written}
+use Rattle.relay.proofs.Relaying.answer_input.Goals as goal
+
+pub loop-init : goal.loop-init
+loop-init g c = record { scratch = refl; room = refl; came = came_start _ c.requires.0 c.requires.1 }
+
+pub slice_bounds-answer_piece-end : goal.slice_bounds-answer_piece-end
+slice_bounds-answer_piece-end g c = omega (arith, got_count c.in-Ok-Some.field-0-is c.in-Ok-Some.ensures)
+
+pub slice_bounds-answer_piece-end-in-Ok-Some : goal.slice_bounds-answer_piece-end-in-Ok-Some
+slice_bounds-answer_piece-end-in-Ok-Some g c = simp length-take (omega (arith, got_count c.in-Ok-Some.field-0-is c.in-Ok-Some.ensures))
+
+pub returns-in_err-answer_piece-in-Ok-Some : goal.returns-in_err-answer_piece-in-Ok-Some
+returns-in_err-answer_piece-in-Ok-Some g c =
+    let p = err_from_is_err_and c.from_residual.result c.from_residual.ensures.1 in
+    let e = c.in_err-answer_piece-in-Ok-Some.ensures in
+    rw (p.1, p.2) (came_fail c.loop.invariant.came e.taken e.piece)
+
+pub returns-in-Ok-None : goal.returns-in-Ok-None
+returns-in-Ok-None g c = came_stop c.loop.invariant.came c.finish.ensures.ran
+
+pub returns-in-Err : goal.returns-in-Err
+returns-in-Err g c =
+    let k = c.loop.invariant.came in
+    came_stop k (left_unread _ _ _ (came_taken k) (came_written k) c.halt.ensures.stops (c.halt.ensures.line c.loop.scratch))
+
+pub loop-preserved : goal.loop-preserved
+loop-preserved g c =
+    let e = c.in_ok-answer_piece-in-Ok-Some.ensures in
+    record { scratch = search rules; room = search rules; came = came_more c.loop.invariant.came e.taken e.piece }
+
+pub returns : goal.returns
+returns g c =
+    let k = c.loop.invariant.came in
+    came_stop k (left_unread _ _ _ (came_taken k) (came_written k) c.halt-2.ensures.stops (c.halt-2.ensures.line c.loop.scratch))

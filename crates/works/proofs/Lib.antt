@@ -1,2 +1,0 @@
--- The laws of where the work stands.
-pub mod Standing
