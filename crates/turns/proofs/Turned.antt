@@ -6,7 +6,7 @@ use mathlib.Core.Path.{◌≡◌, refl, subst, sym, ap, ◌∙◌}
 use native.Mathlib.Omega.{arith}
 use lib.Dec.{leb}
 use lib.ListN.{length, take, drop}
-use lib.Seq.{length-take-le, take-append_seam}
+use lib.Seq.{length-take-le, take-append_seam, drop-append_seam}
 use borrow.Author.Tests.{not-true, not-false}
 use Rattle.lists.specs.Bytes.{over}
 use Rattle.lists.specs.Choice.{both}
@@ -20,6 +20,7 @@ use Rattle.model.specs.declared.Request.TheVariants.{Frames, Call as Asked, NotR
 use Rattle.model.specs.declared.State.{State}
 use Rattle.model.specs.Classes.{class_of}
 use Rattle.model.specs.Fresh.{empty_tables}
+use Rattle.model.specs.Lines.{stores}
 use Rattle.model.specs.Parts.{data_in}
 use Rattle.model.specs.Replies.{reply}
 use Rattle.model.specs.Session.{Turn, turn, buffer_for, frames_turn, request_turn}
@@ -30,7 +31,7 @@ use Rattle.turns.specs.declared.Host.{Host}
 use Rattle.turns.specs.declared.Outcome.{Outcome}
 use Rattle.turns.specs.Taken.{session_of, Prepared, buffer_length, Taken}
 use Rattle.turns.proofs.Carried.{served_scratch, served_buffer, unready_taken, served_taken}
-use Rattle.turns.proofs.Filled.{prepared_long, part_given}
+use Rattle.turns.proofs.Filled.{prepared_long, unstoring, part_given}
 use Rattle.turns.proofs.Usable.{usable_sound, usable_room}
 
 abbrev told : Request → Answer → Outcome
@@ -79,6 +80,12 @@ frames_done h m b q count o x y s g f is z p k e =
     (as_it_was (record { begun = true; ready = y; state = s }) m b q k (Done 0) _
     (rw g (no! _ _ f ∙ yes! _ _ (sym is ∙ not-false x z) ∙ ap (λ t. turn (Frames count) (Done 0) [] (record { begun = true; tables = t; scratch = m })) (sym p))))
 
+-- a FRAMES has no data, whatever stands in the buffer
+pub frames_bare : (h : Host) (m b b' : List ℕ) (q : Request) (count : ℕ) (o : Outcome) (t : Host) → q ≡ Frames count
+    → Taken (request_turn (session_of h m) (Frames count) (data_in (Frames count) b')) o b' t m → Taken (request_turn (session_of h m) q (data_in q b)) o b' t m
+unfolding stores
+frames_bare h m b b' q count o t g d = rw (g, unstoring (Frames count) b refl, ← unstoring (Frames count) b' refl) d
+
 -- A call where check 1 holds: what it finds.
 module _ (h : Host) (m : List ℕ) (u : h.ready ≡ usable h.state (length m)) (r : not h.ready ≡ false) where
   abbrev room : ℕ
@@ -100,10 +107,15 @@ module _ (h : Host) (m : List ℕ) (u : h.ready ≡ usable h.state (length m)) (
     served : Served h.state k (reply a t) (take room m) (buffer_for k.operation size (data_in q b)) m' b'
     served = rw (part_given q k size n b g p c) at d
 
+    long : length b' ≡ n
+    long = served_buffer h.state k _ _ m' b' _ d ∙ length-take-le n b (omega (arith, prepared_long q b p))
+
     moved : take n (b' ++ drop n b) ≡ b'
-    moved =
-        let l : length b' ≡ n = served_buffer h.state k _ _ m' b' _ d ∙ length-take-le n b (omega (arith, prepared_long q b p)) in
-        ap (λ j. take j (b' ++ drop n b)) (sym l) ∙ take-append_seam b' _
+    moved = ap (λ j. take j (b' ++ drop n b)) (sym long) ∙ take-append_seam b' _
+
+    -- the bytes behind them stay
+    pub carried_beyond : drop n (b' ++ drop n b) ≡ drop n b
+    carried_beyond = ap (λ j. drop j (b' ++ drop n b)) (sym long) ∙ drop-append_seam b' _
 
     back : over m 0 m' ≡ m' ++ drop room m
     unfolding over

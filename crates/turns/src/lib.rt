@@ -2,7 +2,7 @@
 // which the reply is made.
 #![tactic(auto)]
 
-ghost use Rattle.std.specs.Prelude.{◌+◌, ◌≤◌, ◌≡◌, length};
+ghost use Rattle.std.specs.Prelude.{◌+◌, ◌≤◌, ◌≡◌, length, drop};
 ghost use Rattle.model.specs.Classes.{class_of};
 ghost use Rattle.model.specs.Parts.{data_in};
 ghost use Rattle.model.specs.Session.{line_text, request_turn};
@@ -67,6 +67,7 @@ fn carry(
     requires prepared { Prepared request buffer.old }
     requires known { host.old.ready ≡ usable host.old.state (length scratch.old) }
     ensures taken { Taken (request_turn (session_of host.old scratch.old) request (data_in request buffer.old)) result buffer.new host.new scratch.new }
+    ensures beyond { drop result.moved buffer.new ≡ drop result.moved buffer.old }
     ensures few { result.moved ≤ 257 }
 {
     if !host.begun {
@@ -121,11 +122,12 @@ fn frames(host: &mut Host, scratch: &[u8], request: Request, count: u32, buffer:
     told(request, Answer::Done { value: 0 })
 }
 
-// A request is carried out, and what stands between lines is as after it.
+// A request is carried out, and what stands between lines is as after it. The bytes of the buffer behind those that it moved stay.
 pub fn turn(host: &mut Host, scratch: &mut [u8], request: Request, buffer: &mut [u8]) -> Outcome
     requires prepared { Prepared request buffer.old }
     requires known { host.old.ready ≡ usable host.old.state (length scratch.old) }
     ensures taken { Taken (request_turn (session_of host.old scratch.old) request (data_in request buffer.old)) result buffer.new host.new scratch.new }
+    ensures beyond { drop result.moved buffer.new ≡ drop result.moved buffer.old }
     ensures few { result.moved ≤ 257 }
 {
     match request {

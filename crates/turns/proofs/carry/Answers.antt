@@ -1,6 +1,6 @@
 use mathlib.Core.Path.{sym}
 use Rattle.turns.proofs.Filled.{part_within, part_long}
-use Rattle.turns.proofs.Turned.{early, unready, call_room, call_sound, call_part, carried_taken}
+use Rattle.turns.proofs.Turned.{early, unready, call_room, call_sound, call_part, carried_taken, carried_beyond}
 use Rattle.turns.proofs.carry.Goals as goal
 
 pub returns-then-not-host-clause-taken : goal.returns-then-not-host-clause-taken
@@ -26,6 +26,9 @@ serve-answer-requires c = sym (search call_part)
 
 pub returns-clause-taken : goal.returns-clause-taken
 returns-clause-taken c = search carried_taken
+
+pub returns-clause-beyond : goal.returns-clause-beyond
+returns-clause-beyond c = search carried_beyond
 
 pub invariant_of-serve : goal.invariant_of-serve
 invariant_of-serve c = record { held = search call_sound }
