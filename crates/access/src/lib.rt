@@ -8,6 +8,8 @@ ghost use Rattle.model.specs.Leaves.{scratch_judged, buffer_judged};
 ghost use Rattle.model.specs.Replies.{call_of};
 ghost use Rattle.model.specs.declared.Operation.TheVariants.{Fetch, Store};
 ghost use Rattle.transfer.specs.Transferred.{RunIn};
+ghost use Rattle.asks.specs.Asks.{asks_by};
+ghost use Rattle.views.specs.Views.{view_of};
 ghost use Rattle.access.specs.Access.{reached_by, Fetches, Stores};
 
 use model::{Answer, Caller, Kind, Operation, Reach};
@@ -71,6 +73,7 @@ pub fn fetch(
     requires { length scratch.now ≡ s.now.state.now.frames * 4096 }
     ensures value { result ≡ (judge s.now.state.now (call_of caller (Fetch register address)) (length buffer.old)).answer }
     ensures buffer_after { buffer.new ≡ buffer_judged s.now.state.now (call_of caller (Fetch register address)) scratch.now buffer.old }
+    ensures seen { Fetches (view_of s.now.state.now (asks_by caller.guest (Fetch register address))) register address scratch.now buffer.old result buffer.new }
 {
     let operation = Operation::Fetch { register, address };
     let v = views::seen_by(s.state, caller, operation);
@@ -88,6 +91,7 @@ pub fn store(
     requires { length scratch.old ≡ s.now.state.now.frames * 4096 }
     ensures value { result ≡ (judge s.now.state.now (call_of caller (Store register address)) (length bytes.now)).answer }
     ensures scratch_after { scratch.new ≡ scratch_judged s.now.state.now (call_of caller (Store register address)) scratch.old bytes.now }
+    ensures seen { Stores (view_of s.now.state.now (asks_by caller.guest (Store register address))) register address scratch.old bytes.now result scratch.new }
 {
     let operation = Operation::Store { register, address };
     let v = views::seen_by(s.state, caller, operation);

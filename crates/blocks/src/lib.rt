@@ -6,7 +6,7 @@ ghost use Rattle.std.specs.Prelude.{◌*◌, ◌≡◌, ltb};
 ghost use Rattle.model.specs.Replies.{call_of};
 ghost use Rattle.model.specs.declared.Operation.TheVariants.{Block};
 ghost use Rattle.sound.specs.Answered.{Answered};
-ghost use Rattle.edits.specs.Edits.{Decided, edited};
+ghost use Rattle.edits.specs.Edits.{Decided, edited, Seen};
 
 use edits::{Edit, Granted};
 use model::{Answer, Caller, Cell, Operation, Space};
@@ -37,7 +37,8 @@ pub fn decide_block(v: &View, id: u32, address: u32, key: u32, mark: u32) -> Res
 }
 
 pub fn block(s: &mut Sound, caller: Caller, id: u32, address: u32, key: u32, mark: u32) -> Answer
-    ensures { Answered s.old (call_of caller (Block id address key mark)) result s.new }
+    ensures answered { Answered s.old (call_of caller (Block id address key mark)) result s.new }
+    ensures seen { Seen s.old (call_of caller (Block id address key mark)) result }
 {
     let operation = Operation::Block {
         id,

@@ -6,7 +6,7 @@ ghost use Rattle.std.specs.Prelude.{◌≡◌};
 ghost use Rattle.model.specs.Replies.{call_of};
 ghost use Rattle.model.specs.declared.Operation.TheVariants.{Load, Mode, Key};
 ghost use Rattle.sound.specs.Answered.{Answered};
-ghost use Rattle.edits.specs.Edits.{Decided, edited};
+ghost use Rattle.edits.specs.Edits.{Decided, edited, Seen};
 
 use edits::{Edit, Granted};
 use model::{Answer, Caller, Operation};
@@ -26,7 +26,8 @@ pub fn decide_load(v: &View, register: u32, value: u32) -> Result<Granted, Answe
 }
 
 pub fn load(s: &mut Sound, caller: Caller, register: u32, value: u32) -> Answer
-    ensures { Answered s.old (call_of caller (Load register value)) result s.new }
+    ensures answered { Answered s.old (call_of caller (Load register value)) result s.new }
+    ensures seen { Seen s.old (call_of caller (Load register value)) result }
 {
     let operation = Operation::Load { register, value };
     edits::call(s, caller, operation, |v| decide_load(v, register, value))
@@ -45,7 +46,8 @@ pub fn decide_mode(v: &View, mode: u32) -> Result<Granted, Answer>
 }
 
 pub fn mode(s: &mut Sound, caller: Caller, mode: u32) -> Answer
-    ensures { Answered s.old (call_of caller (Mode mode)) result s.new }
+    ensures answered { Answered s.old (call_of caller (Mode mode)) result s.new }
+    ensures seen { Seen s.old (call_of caller (Mode mode)) result }
 {
     let operation = Operation::Mode { mode };
     edits::call(s, caller, operation, |v| decide_mode(v, mode))
@@ -60,7 +62,8 @@ pub fn decide_key(v: &View, key: u32) -> Result<Granted, Answer>
 }
 
 pub fn key(s: &mut Sound, caller: Caller, key: u32) -> Answer
-    ensures { Answered s.old (call_of caller (Key key)) result s.new }
+    ensures answered { Answered s.old (call_of caller (Key key)) result s.new }
+    ensures seen { Seen s.old (call_of caller (Key key)) result }
 {
     let operation = Operation::Key { key };
     edits::call(s, caller, operation, |v| decide_key(v, key))

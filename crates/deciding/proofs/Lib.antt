@@ -1,2 +1,3 @@
 pub mod Touches
 pub mod Served
+pub mod Decided

@@ -3,17 +3,22 @@
 
 ghost use Rattle.std.specs.Prelude.{◌*◌, ◌≡◌, length};
 ghost use Rattle.model.specs.Replies.{reply};
+ghost use Rattle.asks.specs.Asks.{asks_by};
+ghost use Rattle.views.specs.Views.{view_of};
 ghost use Rattle.deciding.specs.Served.{Served};
+ghost use Rattle.deciding.specs.Decisions.{DecidedTo};
 
 use model::{Answer, Call, Operation};
 use sound::Sound;
 
 // `scratch` and `buffer` are the machine's frames and the call's own buffer. The length of scratch is asked here, and is no invariant of
-// Sound, since it goes by what is lent beside the state.
+// Sound, since it goes by what is lent beside the state. What a call comes to that does not ask for whole tables hangs on what it sees of
+// them alone.
 pub fn serve(s: &mut Sound, scratch: &mut [u8], call: &Call, buffer: &mut [u8]) -> Answer
     requires { length scratch.old ≡ s.old.state.now.frames * 4096 }
     ensures same_state { s.new.state.ghost_name ≡ s.old.state.ghost_name }
     ensures served { Served s.old.state.now call.now (reply result s.new.state.now) scratch.old buffer.old scratch.new buffer.new }
+    ensures seen { DecidedTo (view_of s.old.state.now (asks_by call.now.caller.guest call.now.operation)) call.now.operation scratch.old buffer.old result scratch.new buffer.new }
 {
     let caller = call.caller;
     match call.operation {

@@ -10,6 +10,7 @@ use Rattle.model.specs.declared.Reply.{Reply}
 use Rattle.model.specs.declared.State.{State}
 use Rattle.model.specs.Changes.{applied}
 use Rattle.model.specs.Decision.{Decision, refuse}
+use Rattle.model.specs.declared.Call.{Call}
 use Rattle.model.specs.declared.Caller.{Caller}
 use Rattle.model.specs.declared.Operation.{Operation}
 use Rattle.model.specs.Calls.{enrols, judge}
@@ -23,7 +24,8 @@ use Rattle.edits.specs.declared.Edit.{Edit}
 use Rattle.edits.specs.declared.Edit.TheVariants as edit
 use Rattle.edits.specs.declared.Edited.{Edited}
 use Rattle.edits.specs.declared.Granted.{Granted}
-use Rattle.edits.specs.Edits.{change_of, edited, Fits, Decides, Decided}
+use Rattle.edits.specs.Edits.{change_of, edited, Fits, Decides, Decided, Seen}
+use Rattle.sound.specs.declared.Sound.{Sound}
 use Rattle.sound.proofs.Kept.{replied_sound}
 use Rattle.std.specs.Prelude.{Result, Ok, Err, IsErrAnd}
 
@@ -93,3 +95,8 @@ module _ (s : State) (c : Caller) (o : Operation) (v : View) (x : Edited) (ok : 
 
   pub seen_told : x.answer ≡ (judge s (call_of c o) 0).answer
   seen_told = (d.decides s c ok q).answer
+
+-- what it came to was decided on that
+pub seen_decided : (before : Sound) (k : Call) (v : View) (x : Edited) (a : Answer) → v ≡ view_of before.state.now (asks_by k.caller.guest k.operation) → Decided v k.operation x → a ≡ x.answer
+    → Seen before k a
+seen_decided before k v x a q d e = record { edit = x.edit; decided = rw (← q, e) d }

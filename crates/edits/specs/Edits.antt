@@ -2,6 +2,7 @@
 use Rattle.std.specs.Prelude.{◌<◌, true, ◌≡◌, Result, Ok, Err}
 use Rattle.model.specs.declared.Answer.{Answer}
 use Rattle.model.specs.declared.Answer.TheVariants.{Done}
+use Rattle.model.specs.declared.Call.{Call}
 use Rattle.model.specs.declared.Caller.{Caller}
 use Rattle.model.specs.declared.Change.{Change}
 use Rattle.model.specs.declared.Change.TheVariants.{Keep, SetPermit, SetEntry, SetRegister, SetMode, SetKey, SetCell}
@@ -11,6 +12,7 @@ use Rattle.model.specs.Calls.{judge}
 use Rattle.model.specs.Decision.{Decision}
 use Rattle.model.specs.Replies.{call_of}
 use Rattle.model.specs.SoundTest.{sound}
+use Rattle.sound.specs.declared.Sound.{Sound}
 use Rattle.views.specs.declared.View.{View}
 use Rattle.asks.specs.Asks.{asks_by}
 use Rattle.views.specs.Views.{view_of}
@@ -53,3 +55,8 @@ pub record Decides (e : Edited) (d : Decision) : Type 0 where
 pub record Decided (v : View) (o : Operation) (x : Edited) : Type 0 where
   pub fits : Fits x.edit
   pub decides : (s : State) (c : Caller) → sound s ≡ true → v ≡ view_of s (asks_by c.guest o) → Decides x (judge s (call_of c o) 0)
+
+-- What a call on a sound state has come to was decided on what it saw alone: its answer, and with it an edit.
+pub record Seen (before : Sound) (k : Call) (a : Answer) : Type 0 where
+  pub edit : Edit
+  pub decided : Decided (view_of before.state.now (asks_by k.caller.guest k.operation)) k.operation (record { answer = a; edit = edit })

@@ -6,7 +6,7 @@ ghost use Rattle.std.specs.Prelude.{◌≡◌};
 ghost use Rattle.model.specs.Changes.{applied};
 ghost use Rattle.model.specs.Replies.{reply, call_of};
 ghost use Rattle.sound.specs.Answered.{Answered};
-ghost use Rattle.edits.specs.Edits.{Fits, change_of, edited, Decided};
+ghost use Rattle.edits.specs.Edits.{Fits, change_of, edited, Decided, Seen};
 
 use model::{Answer, Caller, Cell, Entry, Operation, Permit, State};
 use sound::Sound;
@@ -109,7 +109,7 @@ pub fn carry(s: &mut State, e: Edited) -> Answer
     e.answer
 }
 
-// A call on a sound state: decided on what it sees, and carried out.
+// A call on a sound state: decided on what it sees, and carried out. What it comes to hangs on that alone.
 pub fn call<F: FnOnce(&View) -> Result<Granted, Answer>>(
     s: &mut Sound,
     caller: Caller,
@@ -118,7 +118,8 @@ pub fn call<F: FnOnce(&View) -> Result<Granted, Answer>>(
 ) -> Answer
     requires callable { F.IsAlwaysCallable decide }
     requires decides { (v : _) (r : _) → F.post decide v r → Decided v.now operation (edited r) }
-    ensures { Answered s.old (call_of caller operation) result s.new }
+    ensures answered { Answered s.old (call_of caller operation) result s.new }
+    ensures seen { Seen s.old (call_of caller operation) result }
 {
     let v = views::seen_by(s.state, caller, operation);
     carry(s.state, decide(&v).into())

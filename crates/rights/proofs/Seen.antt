@@ -47,7 +47,8 @@ use Rattle.lookup.proofs.Rows.{enrolled_row}
 use Rattle.edits.specs.declared.Edit.TheVariants.{Nothing, Permit as PermitEdit, Entry as EntryEdit}
 use Rattle.edits.specs.declared.Granted.{Granted}
 use Rattle.edits.specs.Edits.{change_of, edited, Fits, Decided}
-use Rattle.rights.specs.Isolated.{IsolatedTo}
+use Rattle.rights.specs.Isolated.{IsolatedTo, isolate_answer, SeenIsolated}
+use Rattle.sound.specs.declared.Sound.{Sound}
 use Rattle.edits.proofs.Kept.{decided_refused, decided_done}
 use Rattle.translation.specs.Translated.{token_place}
 use Rattle.translation.proofs.Translated.{named_place}
@@ -214,6 +215,16 @@ module _ (s : State) (c : Caller) (i : ℕ) (v : View) (o : Result ℕ Answer) (
   pub isolate_done : (u : ℕ) (t : State) → o ≡ Ok u → t ≡ applied s (IsolateSpace u) → reply (Done 0) t ≡ replied s (judge s (call_of c (Isolate i)) 0)
   unfolding replied
   isolate_done u t e y = ap (reply (Done 0)) y ∙ ap (replied s) (sym ((told_as (Ok u) e).decided.is s c ok q))
+
+module _ (before : Sound) (c : Caller) (i : ℕ) (v : View) (o : Result ℕ Answer) (q : v ≡ view_of before.state.now (asks_by c.guest (Isolate i))) (t : IsolatedTo v i o) where
+  seen_as : (a : Answer) → a ≡ isolate_answer o → SeenIsolated before c i a
+  seen_as a e = record { decision = o; decided = rw (← q) t; answer = e }
+
+  pub isolate_seen_refused : (a : Answer) → o ≡ Err a → SeenIsolated before c i a
+  isolate_seen_refused a e = seen_as a (ap isolate_answer (sym e))
+
+  pub isolate_seen_done : (u : ℕ) → o ≡ Ok u → SeenIsolated before c i (Done 0)
+  isolate_seen_done u e = seen_as (Done 0) (ap isolate_answer (sym e))
 
 -- QUERY
 module _ (v : View) (o n : ℕ) (l : v.place < 8) (a : Bool) (ys : a ≡ both (leb 1 o) (leb o 8)) where

@@ -7,8 +7,8 @@ ghost use Rattle.model.specs.Calls.{judge};
 ghost use Rattle.model.specs.Replies.{call_of};
 ghost use Rattle.model.specs.declared.Operation.TheVariants.{Permit as PermitCall, Isolate, Query, Add, Remove};
 ghost use Rattle.sound.specs.Answered.{Answered};
-ghost use Rattle.edits.specs.Edits.{Decided, edited};
-ghost use Rattle.rights.specs.Isolated.{IsolatedTo};
+ghost use Rattle.edits.specs.Edits.{Decided, edited, Seen};
+ghost use Rattle.rights.specs.Isolated.{IsolatedTo, SeenIsolated};
 
 use edits::{Edit, Edited, Granted};
 use model::{Answer, Caller, Entry, Kind, Operation, Permit, Right, Standing};
@@ -38,7 +38,8 @@ pub fn decide_permit(v: &View, id: u32, guest: u32, right: Right) -> Result<Gran
 }
 
 pub fn permit(s: &mut Sound, caller: Caller, id: u32, guest: u32, right: Right) -> Answer
-    ensures { Answered s.old (call_of caller (PermitCall id guest right)) result s.new }
+    ensures answered { Answered s.old (call_of caller (PermitCall id guest right)) result s.new }
+    ensures seen { Seen s.old (call_of caller (PermitCall id guest right)) result }
 {
     let operation = Operation::Permit { id, guest, right };
     edits::call(s, caller, operation, |v| decide_permit(v, id, guest, right))
@@ -54,7 +55,8 @@ pub fn decide_isolate(v: &View, id: u32) -> Result<u8, Answer>
 }
 
 pub fn isolate(s: &mut Sound, caller: Caller, id: u32) -> Answer
-    ensures { Answered s.old (call_of caller (Isolate id)) result s.new }
+    ensures answered { Answered s.old (call_of caller (Isolate id)) result s.new }
+    ensures seen { SeenIsolated s.old caller id result }
 {
     let operation = Operation::Isolate { id };
     let v = views::seen_by(s.state, caller, operation);
@@ -94,7 +96,8 @@ pub fn decide_query(v: &View, owner: u32, name: u64) -> Result<Granted, Answer>
 }
 
 pub fn query(s: &Sound, caller: Caller, owner: u32, name: u64) -> Answer
-    ensures { result ≡ (judge s.now.state.now (call_of caller (Query owner name)) 0).answer }
+    ensures value { result ≡ (judge s.now.state.now (call_of caller (Query owner name)) 0).answer }
+    ensures seen { Seen s.now (call_of caller (Query owner name)) result }
 {
     let operation = Operation::Query { owner, name };
     let v = views::seen_by(s.state, caller, operation);
@@ -133,7 +136,8 @@ pub fn decide_add(v: &View, id: u32, right: Right) -> Result<Granted, Answer>
 }
 
 pub fn add(s: &mut Sound, caller: Caller, id: u32, right: Right) -> Answer
-    ensures { Answered s.old (call_of caller (Add id right)) result s.new }
+    ensures answered { Answered s.old (call_of caller (Add id right)) result s.new }
+    ensures seen { Seen s.old (call_of caller (Add id right)) result }
 {
     let operation = Operation::Add { id, right };
     edits::call(s, caller, operation, |v| decide_add(v, id, right))
@@ -157,7 +161,8 @@ pub fn decide_remove(v: &View, token: u32) -> Result<Granted, Answer>
 }
 
 pub fn remove(s: &mut Sound, caller: Caller, token: u32) -> Answer
-    ensures { Answered s.old (call_of caller (Remove token)) result s.new }
+    ensures answered { Answered s.old (call_of caller (Remove token)) result s.new }
+    ensures seen { Seen s.old (call_of caller (Remove token)) result }
 {
     let operation = Operation::Remove { token };
     edits::call(s, caller, operation, |v| decide_remove(v, token))

@@ -34,7 +34,7 @@ use Rattle.turns.proofs.Carried.{served_scratch, served_buffer, unready_taken, s
 use Rattle.turns.proofs.Filled.{prepared_long, unstoring, part_given}
 use Rattle.turns.proofs.Usable.{usable_sound, usable_room}
 
-abbrev told : Request → Answer → Outcome
+abbrev pub told : Request → Answer → Outcome
 told q a = record { request = q; answer = a; moved = 0 }
 
 -- what the turn is said to be: nothing changes

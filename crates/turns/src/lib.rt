@@ -10,6 +10,7 @@ ghost use Rattle.model.specs.declared.Request.TheVariants.{Frames, Call as Asked
 ghost use Rattle.ready.specs.Usable.{usable};
 ghost use Rattle.digits.specs.Wrote.{Wrote};
 ghost use Rattle.turns.specs.Taken.{Prepared, buffer_length, outcome_of, session_of, Taken};
+ghost use Rattle.turns.specs.Told.{AnsweredTo};
 
 use digits::Text;
 use model::{Answer, Call, Kind, Operation, Request, State};
@@ -67,6 +68,7 @@ fn carry(
     requires prepared { Prepared request buffer.old }
     requires known { host.old.ready ≡ usable host.old.state (length scratch.old) }
     ensures taken { Taken (request_turn (session_of host.old scratch.old) request (data_in request buffer.old)) result buffer.new host.new scratch.new }
+    ensures seen { AnsweredTo host.old request scratch.old buffer.old result scratch.new buffer.new }
     ensures beyond { drop result.moved buffer.new ≡ drop result.moved buffer.old }
     ensures few { result.moved ≤ 257 }
 {
@@ -123,10 +125,12 @@ fn frames(host: &mut Host, scratch: &[u8], request: Request, count: u32, buffer:
 }
 
 // A request is carried out, and what stands between lines is as after it. The bytes of the buffer behind those that it moved stay.
+// What becomes of one that does not ask for whole tables hangs on what it sees of them alone.
 pub fn turn(host: &mut Host, scratch: &mut [u8], request: Request, buffer: &mut [u8]) -> Outcome
     requires prepared { Prepared request buffer.old }
     requires known { host.old.ready ≡ usable host.old.state (length scratch.old) }
     ensures taken { Taken (request_turn (session_of host.old scratch.old) request (data_in request buffer.old)) result buffer.new host.new scratch.new }
+    ensures seen { AnsweredTo host.old request scratch.old buffer.old result scratch.new buffer.new }
     ensures beyond { drop result.moved buffer.new ≡ drop result.moved buffer.old }
     ensures few { result.moved ≤ 257 }
 {

@@ -1,5 +1,6 @@
-use mathlib.Core.Path.{refl}
-use Rattle.edits.proofs.Kept.{seen_carried, seen_sound}
+use mathlib.Core.Path.{refl, ap}
+use Rattle.model.specs.declared.Reply.{Reply}
+use Rattle.edits.proofs.Kept.{seen_carried, seen_sound, seen_decided}
 use Rattle.edits.proofs.call.Goals as goal
 
 pub carry-requires : goal.carry-requires
@@ -10,7 +11,12 @@ invariant_of-s g c =
     let d = c.requires.decides _ _ c.decide.ensures in
     record { held = seen_sound _ _ _ _ _ c.args.s.now.held c.seen_by-v.ensures d _ (rw c.into.ensures at c.carry.ensures) }
 
-pub returns : goal.returns
-returns g c =
+pub returns-clause-answered : goal.returns-clause-answered
+returns-clause-answered g c =
     let d = c.requires.decides _ _ c.decide.ensures in
     record { same_state = refl; reply = seen_carried _ _ _ _ _ c.args.s.now.held c.seen_by-v.ensures d _ (rw c.into.ensures at c.carry.ensures) }
+
+pub returns-clause-seen : goal.returns-clause-seen
+returns-clause-seen g c =
+    let d = c.requires.decides _ _ c.decide.ensures in
+    seen_decided _ _ _ _ _ c.seen_by-v.ensures d (ap (λ (r : Reply). r.answer) (rw c.into.ensures at c.carry.ensures))

@@ -1,6 +1,7 @@
 use mathlib.Core.Path.{sym}
 use Rattle.turns.proofs.Filled.{part_within, part_long}
 use Rattle.turns.proofs.Turned.{early, unready, call_room, call_sound, call_part, carried_taken, carried_beyond}
+use Rattle.turns.proofs.Seen.{early_seen, unready_seen, served_seen}
 use Rattle.turns.proofs.carry.Goals as goal
 
 pub returns-then-not-host-clause-taken : goal.returns-then-not-host-clause-taken
@@ -26,6 +27,15 @@ serve-answer-requires c = sym (search call_part)
 
 pub returns-clause-taken : goal.returns-clause-taken
 returns-clause-taken c = search carried_taken
+
+pub returns-then-not-host-clause-seen : goal.returns-then-not-host-clause-seen
+returns-then-not-host-clause-seen c = search early_seen
+
+pub returns-then-not-host-2-clause-seen : goal.returns-then-not-host-2-clause-seen
+returns-then-not-host-2-clause-seen c = search unready_seen
+
+pub returns-clause-seen : goal.returns-clause-seen
+returns-clause-seen c = search served_seen
 
 pub returns-clause-beyond : goal.returns-clause-beyond
 returns-clause-beyond c = search carried_beyond

@@ -1,0 +1,58 @@
+-- A request by what it sees of the tables: what the code has made is what becomes of it on all tables that show this. Assumes
+-- nothing.
+use Prim.Native.Nat.{ℕ, ◌*◌, ◌≤◌}
+use mathlib.Core.Bool.{true, false, not}
+use mathlib.Core.List.{List, ◌++◌}
+use mathlib.Core.Path.{◌≡◌, subst, sym}
+use lib.ListN.{take, drop}
+use borrow.Author.Tests.{not-false}
+use Rattle.model.specs.declared.Answer.{Answer}
+use Rattle.model.specs.declared.Answer.TheVariants.{Unsound, LineNotRead}
+use Rattle.model.specs.declared.Call.{Call}
+use Rattle.model.specs.declared.Change.TheVariants.{Keep}
+use Rattle.model.specs.declared.Request.{Request}
+use Rattle.model.specs.declared.Request.TheVariants.{Frames, Call as Asked, NotRead}
+use Rattle.model.specs.Changes.{applied}
+use Rattle.model.specs.Classes.{class_of}
+use Rattle.model.specs.Replies.{reply}
+use Rattle.asks.specs.Asks.{asks_by, asks_for}
+use Rattle.views.specs.Views.{view_of}
+use Rattle.deciding.specs.Decisions.{DecidedTo, whole, seen}
+use Rattle.deciding.specs.Served.{Served}
+use Rattle.turns.specs.declared.Host.{Host}
+use Rattle.turns.specs.declared.Outcome.{Outcome}
+use Rattle.turns.specs.Taken.{Prepared, buffer_length}
+use Rattle.turns.specs.Told.{host_of, Waiting, AnsweredTo, waits, answered}
+use Rattle.turns.proofs.Turned.{told, unread, early, unready, carried_taken}
+use Rattle.turns.proofs.Usable.{usable_sound}
+
+module _ (h : Host) (m b : List ℕ) (q : Request) where
+  -- FRAMES looks at no tables before it has made them
+  pub frames_wait : (count : ℕ) (o : Outcome) (m' b' : List ℕ) → q ≡ Frames count → AnsweredTo h q m b o m' b'
+  frames_wait count o m' b' g = waits (subst (Waiting h.begun h.ready) (sym g) tt)
+
+  -- a request that changes nothing: one that is not read, and a call before a done FRAMES or where check 1 doesn't hold
+  pub unread_seen : (o : Outcome) → q ≡ NotRead → o ≡ told q LineNotRead → AnsweredTo h q m b o m b
+  unread_seen o g e = answered Keep (record { taken = λ s z. unread (host_of h s) m b q z.ready o g e })
+
+  module _ (k : Call) (size : ℕ) (g : q ≡ Asked k size) where
+    pub early_seen : (o : Outcome) → not h.begun ≡ true → o ≡ told q LineNotRead → AnsweredTo h q m b o m b
+    early_seen o f e = answered Keep (record { taken = λ s z. early (host_of h s) m b q z.ready k size g o f e })
+
+    module _ (n : ℕ) (p : Prepared q b) (c : n ≡ buffer_length (class_of k.operation).moves size) (f : not h.begun ≡ false) where
+      pub unready_seen : not h.ready ≡ true → AnsweredTo h q m b (record { request = q; answer = Unsound; moved = n }) m b
+      unready_seen r = answered Keep (record { taken = λ s z. unready (host_of h s) m b q z.ready k size g n p c f r })
+
+      -- a call that was served: `m'` and `b'` are its parts of scratch and of the buffer after it
+      pub served_seen : (m' b' : List ℕ) (a : Answer) → n ≤ 257 → not h.ready ≡ false
+          → DecidedTo (view_of h.state (asks_by k.caller.guest k.operation)) k.operation (take (h.state.frames * 4096) m) (take n b) a m' b'
+          → AnsweredTo h q m b (record { request = q; answer = a; moved = n }) (m' ++ drop (h.state.frames * 4096) m) (b' ++ drop n b)
+      unfolding asks_for
+      served_seen m' b' a few r (whole w) = waits (subst (Waiting h.begun h.ready) (sym g) (not-false h.begun f, not-false h.ready r, w))
+      served_seen m' b' a few r (seen ch out) = answered ch (record {
+        taken = λ s z.
+            let t = not-false h.ready r in
+            let d : Served s k (reply a (applied s ch)) (take (h.state.frames * 4096) m) (take n b) m' b' =
+            out.served s k.caller (usable_sound s m h.ready z.ready t) (rw g at z.view) in
+            rw z.frames (carried_taken (host_of h s) m z.ready r q k size n b m' b' a (applied s ch) g p c few f (rw z.frames at d));
+      })
