@@ -2,7 +2,7 @@
 // promise is exact; what a call reads or writes no promise can say.
 #![tactic(auto)]
 
-ghost use Rattle.std.specs.Prelude.{◌≤◌, ◌<◌, ◌≡◌, ◌≢◌, length, pos, negsuc, IfSome, IfOk, IfErr};
+ghost use Rattle.std.specs.Prelude.{◌≤◌, ◌<◌, ◌≡◌, ◌≢◌, length, pos, negsuc, IfSome, IfOk, IfErr, MatchResult};
 ghost use Rattle.std.specs.IoError.{raw_os_error};
 ghost use Rattle.descriptors.specs.Came.{came_of, got_of, moved_of, interrupted, bytes_got, place_of, newlines};
 
@@ -155,20 +155,21 @@ fn write_once<W: Write>(to: &mut W, bytes: &[u8], at: usize) -> Result<usize, u3
     write_answered(answer, bytes, at)
 }
 
-// Writes all of the bytes: a write that moved a part, or none, goes on from where it stopped. Only a failure ends it before.
+// Writes all of the bytes, and counts them: a write that moved a part, or none, goes on from where it stopped. Only a failure ends it
+// before.
 #[tactic(auto, unfolding(crate::specs::Came::place_of))]
-pub fn send<W: Write>(to: &mut W, bytes: &[u8]) -> Result<(), Unsent>
-    ensures { IfErr result (λ e. e.count < length bytes.now) }
+pub fn send<W: Write>(to: &mut W, bytes: &[u8]) -> Result<usize, Unsent>
+    ensures { MatchResult result (λ n. n ≡ length bytes.now) (λ e. e.count < length bytes.now) }
 {
     let mut at: usize = 0;
     for _ in 0..u64::MAX {
         if at == bytes.len() {
-            return Ok(());
+            return Ok(at);
         }
         at = write_once(to, bytes, at).map_err(|error| Unsent { count: at, error })?;
     }
     if at == bytes.len() {
-        return Ok(());
+        return Ok(at);
     }
     Err(Unsent {
         count: at,

@@ -1,6 +1,7 @@
 -- How the work ends: at the end of the input, and at a read that failed. Assumes nothing.
-use Rattle.std.proofs.Common.{◌≡◌, ℕ, ◌+◌, ◌<◌, ◌≤◌, Bool, List, [], length, take, None, Ok, Err, sym, refl, ap, ◌∙◌, subst, mod-eq_of_lt, arith}
+use Rattle.std.proofs.Common.{◌≡◌, ℕ, ◌+◌, ◌<◌, ◌≤◌, Bool, List, [], length, take, Option, None, Some, Result, Ok, Err, sym, refl, ap, ◌∙◌, subst, mod-eq_of_lt, arith}
 use Rattle.descriptors.specs.declared.Stopped as descriptors
+use Rattle.descriptors.specs.declared.Stopped.TheVariants.{Failed}
 use Rattle.feeds.specs.Feed.{Feed, after, said, last_words, all_said, new_feed}
 use Rattle.feeds.specs.Fed.{closing, FinishedTo, finished, full}
 use Rattle.feeds.proofs.Chain.{wrote_text}
@@ -12,7 +13,7 @@ use Rattle.relay.specs.declared.Failure.{Failure}
 use Rattle.relay.specs.declared.Failure.TheVariants.{Reading}
 use Rattle.relay.specs.declared.Halt.{Halt}
 use Rattle.relay.specs.Spoken.{counted, replied_to, Stopped}
-use Rattle.relay.specs.Ran.{How, Ran, answered, unread, unwritten, Stops, ended_unwritten, failed, interrupted, RunTo, headed}
+use Rattle.relay.specs.Ran.{How, Ran, answered, unread, unwritten, Stops, ended_unwritten, failed, interrupted, brought, RunTo, headed}
 
 -- no input
 none_counted : (n : ℕ) → n < 18446744073709551616 → n ≡ counted (n + 0)
@@ -59,6 +60,11 @@ end_stops s = subst (λ (k : Failure). Stops (Ok None) (Err k)) (sym s.failure) 
 reading : {s : descriptors.Stopped} {x : Failure} → Stops (Err s) (Err x) → (e : ℕ) × (x ≡ Reading e)
 reading failed = (_, refl)
 reading interrupted = (_, refl)
+
+-- a read that brought bytes, left as one that failed with no error
+pub brought_as : {got : Result (Option ℕ) descriptors.Stopped} {o : Option ℕ} {n : ℕ} {x : Failure} → got ≡ Ok o → o ≡ Some n → Stops (Err (Failed 0)) (Err x)
+    → Stops got (Err x)
+brought_as e i failed = rw (e, i) brought
 
 -- where the work stands holds the scratch that it is given
 standing_scratch : (w : Work) (h m : List ℕ) → m ≡ (feed_by w h m).session.scratch

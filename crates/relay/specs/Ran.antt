@@ -1,6 +1,6 @@
 -- How work on lines from a reader to a writer goes on and ends. The bytes that were read are some `input`, of which its length
 -- is told; the bytes that were written are the first `count` of what is said to them.
-use Rattle.std.specs.Prelude.{◌≡◌, ℕ, ◌+◌, ◌<◌, List, [], length, take, Option, None, Result, Ok, Err, ⊤}
+use Rattle.std.specs.Prelude.{◌≡◌, ℕ, ◌+◌, ◌<◌, List, [], length, take, Option, None, Some, Result, Ok, Err, ⊤}
 use Rattle.descriptors.specs.declared.Stopped.{Stopped}
 use Rattle.descriptors.specs.declared.Stopped.TheVariants.{Interrupted, Failed}
 use Rattle.model.specs.Session.{new_session}
@@ -47,6 +47,8 @@ pub data Stops : Result (Option ℕ) Stopped → How → Type 0 where
   ended_unwritten : {error : ℕ} → Stops (Ok None) (Err (Writing error))
   failed : {error : ℕ} → Stops (Err (Failed error)) (Err (Reading error))
   interrupted : Stops (Err Interrupted) (Err (Reading 4))
+  -- not asked
+  brought : {n : ℕ} → Stops (Ok (Some n)) (Err (Reading 0))
 
 -- A whole session, with its header.
 pub data RunTo (f : Feed) : How → (line taken written : ℕ) → (scratch : List ℕ) → Type 0 where

@@ -50,8 +50,8 @@ fn say<W: Write>(to: &mut W, text: &[u8], line: u64, written: &mut u64) -> Resul
     ensures { Spoken text.now line written.old result written.new }
 {
     match descriptors::send(to, text) {
-        Ok(()) => {
-            *written = written.wrapping_add(text.len() as u64);
+        Ok(count) => {
+            *written = written.wrapping_add(count as u64);
             Ok(())
         }
         Err(unsent) => {
@@ -145,6 +145,24 @@ impl Relaying {
         }
     }
 
+    // A read that brought no bytes: it was at the end of the input, or it failed.
+    fn stop<W: Write>(
+        &mut self,
+        to: &mut W,
+        scratch: &mut [u8],
+        got: Result<Option<usize>, Stopped>,
+    ) -> Result<u64, Halt>
+        requires { (self.old.taken < 2 ^ 64) × (self.old.written < 2 ^ 64) }
+        ensures ran { Ran (standing self.old scratch.old) self.old.taken self.old.written (how_of result) (line_of result) self.new.taken self.new.written scratch.new }
+        ensures stops { Stops got (how_of result) }
+    {
+        match got {
+            Ok(None) => self.finish(to, scratch),
+            Ok(Some(_)) => Err(self.halt(Stopped::Failed { error: 0 })),
+            Err(stopped) => Err(self.halt(stopped)),
+        }
+    }
+
     // Reads to the end of the input. A proved loop has to end, so this one counts its reads, up to a number that no run reaches.
     fn answer_input<R: Read, W: Write>(
         &mut self,
@@ -159,11 +177,10 @@ impl Relaying {
         for _ in 0..u64::MAX {
             match descriptors::read_some(from, room) {
                 Ok(Some(count)) => self.answer_piece(to, scratch, &room[..count])?,
-                Ok(None) => return self.finish(to, scratch),
-                Err(stopped) => return Err(self.halt(stopped)),
+                got => return self.stop(to, scratch, got),
             }
         }
-        Err(self.halt(Stopped::Interrupted))
+        self.stop(to, scratch, Err(Stopped::Interrupted))
     }
 
     // How all of it ended.
@@ -203,7 +220,7 @@ pub fn run<R: Read, W: Write>(
     let mut relaying = Relaying::new(Work::Answering(driver::open()));
     let n = replies::put_header(&mut relaying.out);
     match descriptors::send(to, &relaying.out[..n]) {
-        Ok(()) => relaying.run(from, to, scratch, room),
+        Ok(_) => relaying.run(from, to, scratch, room),
         Err(unsent) => Ending {
             how: Err(Failure::Writing {
                 error: unsent.error,

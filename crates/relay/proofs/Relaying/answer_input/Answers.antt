@@ -1,7 +1,6 @@
 use Rattle.std.proofs.Common.{rules, refl, arith, length-take}
 use Rattle.std.proofs.lemmas.Result.{err_from_is_err_and}
 use Rattle.descriptors.proofs.Came.{got_count}
-use Rattle.relay.proofs.Endings.{left_unread}
 use Rattle.relay.proofs.Joined.{came_start, came_more, came_fail, came_stop, came_taken, came_written}
 use Rattle.relay.proofs.Relaying.answer_input.Goals as goal
 
@@ -20,13 +19,8 @@ returns-in_err-answer_piece-in-Ok-Some g c =
     let e = c.in_err-answer_piece-in-Ok-Some.ensures in
     rw (p.1, p.2) (came_fail c.loop.invariant.came e.taken e.piece)
 
-pub returns-in-Ok-None : goal.returns-in-Ok-None
-returns-in-Ok-None g c = came_stop c.loop.invariant.came c.finish.ensures.ran
-
-pub returns-in-Err : goal.returns-in-Err
-returns-in-Err g c =
-    let k = c.loop.invariant.came in
-    came_stop k (left_unread _ _ _ (came_taken k) (came_written k) c.halt.ensures.stops (c.halt.ensures.line c.loop.scratch))
+pub returns-in_default : goal.returns-in_default
+returns-in_default g c = came_stop c.loop.invariant.came c.stop.ensures.ran
 
 pub loop-preserved : goal.loop-preserved
 loop-preserved g c =
@@ -34,6 +28,10 @@ loop-preserved g c =
     record { scratch = search rules; room = search rules; came = came_more c.loop.invariant.came e.taken e.piece }
 
 pub returns : goal.returns
-returns g c =
-    let k = c.loop.invariant.came in
-    came_stop k (left_unread _ _ _ (came_taken k) (came_written k) c.halt-2.ensures.stops (c.halt-2.ensures.line c.loop.scratch))
+returns g c = came_stop c.loop.invariant.came c.stop-2.ensures.ran
+
+pub stop-requires : goal.stop-requires
+stop-requires g c = let k = c.loop.invariant.came in (came_taken k, came_written k)
+
+pub stop-requires-2 : goal.stop-requires-2
+stop-requires-2 g c = let k = c.loop.invariant.came in (came_taken k, came_written k)
