@@ -98,6 +98,7 @@ impl<W: LineWork + Copy> Feeder<W> {
     ) -> Fed
         ensures { FedTo (feed_of W.kind W.session W.number self.old held.old scratch.old) input.now out.old result.used result.written (feed_of W.kind W.session W.number self.new held.new scratch.new) out.new }
     {
+        self.have = held::kept(held, self.have);
         self.work.begin(scratch);
         let mut used = 0;
         let mut written = 0;

@@ -26,9 +26,9 @@ placed h p y have n l k e f =
     ∙ sym (ap (λ j. take j (take have h ++ p)) room ∙ take-append-add (take have h) p (601 - have))
 
 -- the bytes held are the first ones, no more than there are
-pub hold_part : (h p y : List ℕ) (have start n : ℕ) → length h ≡ 601 → start ≡ min have 601 → n ≡ min (length p) (601 - start)
+pub hold_part : (h p y : List ℕ) (have start n : ℕ) → length h ≡ 601 → start ≡ length (take have h) → n ≡ min (length p) (601 - start)
     → y ≡ over (take (length h - start) (drop start h)) 0 (take (n - 0) (drop 0 p))
     → take (start + n) (take start h ++ (y ++ drop (length h - start) (drop start h))) ≡ take 601 (take have h ++ p)
 hold_part h p y have start n l s e f =
     let same : take start h ≡ take have h = take_least h have start (omega (arith, length-take have h)) in
-    placed h p y start n l (omega arith) e f ∙ ap (λ x. take 601 (x ++ p)) same
+    placed h p y start n l (omega (arith, length-take have h)) e f ∙ ap (λ x. take 601 (x ++ p)) same

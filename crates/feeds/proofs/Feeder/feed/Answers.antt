@@ -10,7 +10,7 @@ returns-in_default g c =
     let l = c.loop-used in
     let inv = l.invariant in
     let b = c.begin.ensures in
-    rw (← b.session, ← b.number) (stopped _ c.args.input.now c.args.out.now l.out l.held l.used _ l.written _ l.self.have _ _ inv.going (sym c.in_default.ensures) (omega arith) inv.kept (omega (arith, inv.room)) _ _ refl c.hold-self.ensures.kept)
+    rw (← b.session, ← b.number, ← c.kept-self.ensures.same) (stopped _ c.args.input.now c.args.out.now l.out l.held l.used _ l.written _ l.self.have _ _ inv.going (sym c.in_default.ensures) (omega arith) inv.kept (omega (arith, inv.room)) _ _ refl c.hold-self.ensures.kept)
 
 pub loop-used-preserved : goal.loop-used-preserved
 loop-used-preserved g c =
