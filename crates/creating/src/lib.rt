@@ -38,7 +38,7 @@ fn decide(s: &State, caller: Caller, name: u64, pages: u32) -> Result<Placed, An
     if lookup::data_spaces(&s.spaces, caller.guest) == s.guests[at].allowance as usize {
         return Err(Answer::AllowanceUsed);
     }
-    making::place(s, caller.guest, name, pages)
+    making::place(&s.spaces, s.frames, s.next, caller.guest, name, pages)
 }
 
 pub fn create(s: &mut Sound, scratch: &mut [u8], caller: Caller, name: u64, pages: u32) -> Answer

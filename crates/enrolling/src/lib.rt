@@ -74,7 +74,14 @@ fn decide(s: &State, caller: Caller, settings: Settings) -> Result<Placed, Answe
         return Err(Answer::BadCaller);
     }
     check(settings)?;
-    making::place(s, caller.guest, BASE, settings.pages)
+    making::place(
+        &s.spaces,
+        s.frames,
+        s.next,
+        caller.guest,
+        BASE,
+        settings.pages,
+    )
 }
 
 pub fn enrol(s: &mut Sound, scratch: &mut [u8], caller: Caller, settings: Settings) -> Answer

@@ -18,24 +18,31 @@ pub struct Placed {
 }
 
 // The checks 9, 11 and 10. A new space takes the lowest free slot and the lowest run of free frames.
-pub fn place(s: &State, owner: u32, name: u64, pages: u32) -> Result<Placed, Answer>
-    requires { (s.now.frames ≤ 512) × (1 ≤ pages) × (pages ≤ 512) × (owner ≤ 8) }
-    ensures { PlacedTo s.now.frames s.now.next s.now.spaces owner name pages result }
+pub fn place(
+    spaces: &[Space; 32],
+    frames: u32,
+    next: u32,
+    owner: u32,
+    name: u64,
+    pages: u32,
+) -> Result<Placed, Answer>
+    requires { (frames ≤ 512) × (1 ≤ pages) × (pages ≤ 512) × (owner ≤ 8) }
+    ensures { PlacedTo frames next spaces.now owner name pages result }
 {
-    let Some(slot) = lookup::free_slot(&s.spaces) else {
+    let Some(slot) = lookup::free_slot(spaces) else {
         return Err(Answer::SlotsUsed);
     };
-    if 65536 <= s.next {
+    if 65536 <= next {
         return Err(Answer::NoIdentification);
     }
-    let first = runs::free_run(&s.spaces, s.frames, pages);
-    if s.frames <= first {
+    let first = runs::free_run(spaces, frames, pages);
+    if frames <= first {
         return Err(Answer::NoRun);
     }
     Ok(Placed {
         slot: slot as u8,
         space: Space {
-            id: s.next,
+            id: next,
             owner: owner as u8,
             name,
             first: first as u16,

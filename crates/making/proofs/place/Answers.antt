@@ -6,11 +6,11 @@ use Rattle.making.proofs.place.Goals as goal
 pub returns-in_default : goal.returns-in_default
 returns-in_default c = search (no_slot, found_none)
 
-pub returns-then-s-ge65536 : goal.returns-then-s-ge65536
-returns-then-s-ge65536 c = search spent
+pub returns-then-next-ge65536 : goal.returns-then-next-ge65536
+returns-then-next-ge65536 c = search spent
 
-pub returns-then-s-first : goal.returns-then-s-first
-returns-then-s-first c = search no_run
+pub returns-then-frames-first : goal.returns-then-frames-first
+returns-then-frames-first c = search no_run
 
 pub overflow_cast-result : goal.overflow_cast-result
 overflow_cast-result c = record { fits = omega (arith, found_low 32 _ _ c.free_slot.ensures _ c.in-Some.is) }
