@@ -164,7 +164,7 @@ pub fn send<W: Write>(to: &mut W, bytes: &[u8]) -> Result<usize, Unsent>
     let mut at: usize = 0;
     for _ in 0..u64::MAX {
         if at == bytes.len() {
-            return Ok(at);
+            break;
         }
         at = write_once(to, bytes, at).map_err(|error| Unsent { count: at, error })?;
     }
