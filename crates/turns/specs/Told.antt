@@ -1,6 +1,7 @@
 -- What becomes of a request hangs on what it sees of the tables alone.
-use Rattle.std.specs.Prelude.{ℕ, Bool, true, List, ◌≡◌, length}
+use Rattle.std.specs.Prelude.{ℕ, ◌<◌, Bool, true, List, ◌≡◌, length}
 use Rattle.model.specs.declared.Change.{Change}
+use Rattle.model.specs.declared.Change.TheVariants.{IsolateSpace}
 use Rattle.model.specs.declared.Request.{Request}
 use Rattle.model.specs.declared.Request.TheVariants as request
 use Rattle.model.specs.declared.State.{State}
@@ -8,6 +9,8 @@ use Rattle.model.specs.Changes.{applied}
 use Rattle.model.specs.Parts.{data_in}
 use Rattle.model.specs.Session.{request_turn}
 use Rattle.deciding.specs.Decisions.{AsksWhole}
+use Rattle.edits.specs.declared.Edit.{Edit}
+use Rattle.edits.specs.Edits.{change_of, Fits}
 use Rattle.ready.specs.Usable.{usable}
 use Rattle.asks.specs.Asks.{asks_for}
 use Rattle.views.specs.Views.{view_of}
@@ -36,7 +39,8 @@ Waiting b r (request.Frames count) = Unit {0}
 Waiting b r (request.Call k size) = (b ≡ true) × (r ≡ true) × AsksWhole k.operation
 Waiting b r request.NotRead = ⊥
 
--- any other request has a change with which it is answered
+-- any other request is answered once an element is stored, or the space in a slot is closed
 pub data AnsweredTo (h : Host) (q : Request) (m b : List ℕ) (o : Outcome) (m' b' : List ℕ) : Type 0 where
   waits : Waiting h.begun h.ready q → AnsweredTo h q m b o m' b'
-  answered : (change : Change) → AnsweredBy h q m b o change m' b' → AnsweredTo h q m b o m' b'
+  with_edit : (edit : Edit) → Fits edit → AnsweredBy h q m b o (change_of edit) m' b' → AnsweredTo h q m b o m' b'
+  with_closing : (slot : ℕ) → slot < 32 → AnsweredBy h q m b o (IsolateSpace slot) m' b' → AnsweredTo h q m b o m' b'

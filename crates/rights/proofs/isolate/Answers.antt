@@ -1,4 +1,5 @@
 use mathlib.Core.Path.{refl}
+use native.Mathlib.Omega.{arith}
 use Rattle.model.specs.declared.Answer.TheVariants.{Done}
 use Rattle.model.specs.declared.Operation.TheVariants.{Isolate}
 use Rattle.model.specs.Replies.{reply, call_of}
@@ -7,7 +8,7 @@ use Rattle.rights.proofs.Seen.{isolate_refused, isolate_low, isolate_done, isola
 use Rattle.rights.proofs.isolate.Goals as goal
 
 pub close-requires : goal.close-requires
-close-requires c = search (isolate_low, c.args.s.now.held)
+close-requires c = search (isolate_low, c.args.s.now.held, arith)
 
 pub returns-in-Err-clause-answered : goal.returns-in-Err-clause-answered
 returns-in-Err-clause-answered c = record { same_state = refl; reply = search (isolate_refused, c.args.s.now.held) }
