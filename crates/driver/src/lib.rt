@@ -2,7 +2,7 @@
 // and then the inner calls are used for every line of it.
 #![tactic(auto)]
 
-ghost use Rattle.std.specs.Prelude.{◌≡◌, true, false, length, refl, MatchOption};
+ghost use Rattle.std.specs.Prelude.{◌≡◌, ◌≤◌, true, false, length, refl, MatchOption};
 ghost use Rattle.ready.specs.Usable.{usable};
 ghost use Rattle.turns.specs.Taken.{session_of};
 ghost use Rattle.feeds.specs.Feed.{answers};
@@ -73,7 +73,8 @@ pub fn feed(
     input: &[u8],
     out: &mut [u8],
 ) -> Fed
-    ensures { FedTo (feed_of session.old held.old scratch.old) input.now out.old result.used result.written (feed_of session.new held.new scratch.new) out.new }
+    ensures fed { FedTo (feed_of session.old held.old scratch.old) input.now out.old result.used result.written (feed_of session.new held.new scratch.new) out.new }
+    ensures most { session.new.have ≤ 601 }
 {
     session.feed(held, scratch, input, out)
 }

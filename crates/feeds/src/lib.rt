@@ -96,7 +96,8 @@ impl<W: LineWork + Copy> Feeder<W> {
         input: &[u8],
         out: &mut [u8],
     ) -> Fed
-        ensures { FedTo (feed_of W.kind W.session W.number self.old held.old scratch.old) input.now out.old result.used result.written (feed_of W.kind W.session W.number self.new held.new scratch.new) out.new }
+        ensures fed { FedTo (feed_of W.kind W.session W.number self.old held.old scratch.old) input.now out.old result.used result.written (feed_of W.kind W.session W.number self.new held.new scratch.new) out.new }
+        ensures most { self.new.have ≤ 601 }
     {
         self.have = held::kept(held, self.have);
         self.work.begin(scratch);

@@ -22,6 +22,10 @@ pub came_start : (f : Feed) {t w : ℕ} → t ≡ 0 → w ≡ 0 → Came f 0 0 t
 unfolding after said
 came_start f a b = record { input = []; feed = refl; taken = a; text = b }
 
+-- a piece of n bytes
+whole_taken : (t : ℕ) {n taken : ℕ} (piece : List ℕ) → taken ≡ counted (t + n) → n ≡ length piece → taken ≡ counted (t + length piece)
+whole_taken t piece counts whole = counts ∙ ap (λ (k : ℕ). counted (t + k)) whole
+
 module _ {f g : Feed} {t₀ w₀ t w : ℕ} (c : Came f t₀ w₀ t w g) where
   pub came_taken : t < 18446744073709551616
   came_taken = rw c.taken (mod-lt (t₀ + length c.input) (lit< tt))
@@ -71,22 +75,22 @@ module _ {f g : Feed} {t₀ w₀ t w : ℕ} (c : Came f t₀ w₀ t w g) where
       let j : length x + length (all_said g y) ≡ length (all_said f (c.input ++ y)) = sym (length-append x (all_said g y)) ∙ ap length (all_more y) in
       unwritten (c.input ++ y) (length x + n) (taken_more y a) (omega arith) (b ∙ sum_join w₀ w (length x) n c.text) (line_more (take n (all_said g y)) _ k l)
 
-  -- a piece more
-  module _ {h : Feed} {piece : List ℕ} {taken written : ℕ} (a : taken ≡ counted (t + length piece)) where
-    pub came_more : PieceTo g piece w (Ok tt) written h → Came f t₀ w₀ taken written h
-    came_more p =
+  -- a piece more, of n bytes
+  module _ {h : Feed} {piece : List ℕ} {n taken written : ℕ} (counts : taken ≡ counted (t + n)) where
+    pub came_more : PieceTo g piece w (Ok tt) written h → n ≡ length piece → Came f t₀ w₀ taken written h
+    came_more p whole =
         record {
           input = c.input ++ piece;
           feed = p.feed refl ∙ after_more piece;
-          taken = taken_more piece a;
+          taken = taken_more piece (whole_taken t piece counts whole);
           text = text_more (said g piece) _ (said_more piece) p.text;
         }
 
-    pub came_fail : {s : Halt} {m : List ℕ} → PieceTo g piece w (Err s) written h → Ran f t₀ w₀ (Err s.failure) s.line taken written m
-    came_fail {s} {m} p =
+    pub came_fail : {s : Halt} {m : List ℕ} → PieceTo g piece w (Err s) written h → n ≡ length piece → Ran f t₀ w₀ (Err s.failure) s.line taken written m
+    came_fail {s} {m} p whole =
         let l : p.text.count < length (said g piece) = p.text.short in
         let k : length (all_said g piece) ≡ length (said g piece) + length (last_words (after g piece)) = length-append (said g piece) (last_words (after g piece)) in
         let q : take p.text.count (said g piece) ≡ take p.text.count (all_said g piece) =
         sym (take-append-le p.text.count (said g piece) (last_words (after g piece)) (omega arith)) in
         subst (λ (x : Failure). Ran f t₀ w₀ (Err x) s.line taken written m) (sym p.text.failure)
-        (came_stop (unwritten piece p.text.count a (omega arith) p.text.sum (p.text.last ∙ ap (replied_to g.line) q)))
+        (came_stop (unwritten piece p.text.count (whole_taken t piece counts whole) (omega arith) p.text.sum (p.text.last ∙ ap (replied_to g.line) q)))

@@ -97,10 +97,10 @@ impl Relaying {
         scratch: &mut [u8],
         input: &[u8],
     ) -> Result<(), Halt>
+        requires { self.old.written < 2 ^ 64 }
         ensures piece { PieceTo (standing self.old scratch.old) input.now self.old.written result self.new.written (standing self.new scratch.new) }
-        ensures taken { self.new.taken ≡ counted (self.old.taken + length input.now) }
+        ensures taken { self.new.taken ≡ self.old.taken }
     {
-        self.taken = self.taken.wrapping_add(input.len() as u64);
         let mut from: usize = 0;
         // A feed takes as much as it has room for: no iterator knows the step.
         while from < input.len() {
@@ -176,7 +176,10 @@ impl Relaying {
     {
         for _ in 0..u64::MAX {
             match descriptors::read_some(from, room) {
-                Ok(Some(count)) => self.answer_piece(to, scratch, &room[..count])?,
+                Ok(Some(count)) => {
+                    self.taken = self.taken.wrapping_add(count as u64);
+                    self.answer_piece(to, scratch, &room[..count])?;
+                }
                 got => return self.stop(to, scratch, got),
             }
         }

@@ -58,7 +58,8 @@ pub fn open() -> Rewriting
 
 // A piece of input, as far as there is room for lines.
 pub fn feed(rewriting: &mut Rewriting, held: &mut [u8; 601], input: &[u8], out: &mut [u8]) -> Fed
-    ensures { FedBy rewriting.old held.old input.now out.old result.used result.written rewriting.new held.new out.new }
+    ensures fed { FedBy rewriting.old held.old input.now out.old result.used result.written rewriting.new held.new out.new }
+    ensures most { rewriting.new.have ≤ 601 }
 {
     rewriting.feed(held, &mut [], input, out)
 }

@@ -3,10 +3,10 @@ use Rattle.feeds.proofs.Feeding.{going_start, line_starts, taken, stopped}
 use Rattle.feeds.proofs.Feeder.feed.Goals as goal
 
 pub loop-used-init : goal.loop-used-init
-loop-used-init g c = record { going = going_start _ _ _; ready = c.begin.ensures.ready; kept = search rules; room = refl; starts = inl refl }
+loop-used-init g c = record { going = going_start _ _ _; ready = c.begin.ensures.ready; kept = search rules; room = refl; starts = inl refl; most = omega (arith, c.kept-self.ensures.count.1) }
 
-pub returns-in_default : goal.returns-in_default
-returns-in_default g c =
+pub returns-in_default-clause-fed : goal.returns-in_default-clause-fed
+returns-in_default-clause-fed g c =
     let l = c.loop-used in
     let inv = l.invariant in
     let b = c.begin.ensures in
@@ -24,4 +24,5 @@ loop-used-preserved g c =
       kept = c.take_line-written.array_long;
       room = omega (arith, inv.room);
       starts = line_starts _ _ _ e.0 e.1 e.2;
+      most = omega (arith, t.emptied);
     }

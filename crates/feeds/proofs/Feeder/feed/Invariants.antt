@@ -1,5 +1,5 @@
 -- Each turn of the loop takes a line.
-use Rattle.std.proofs.Common.{◌≡◌, ◌-◌, length}
+use Rattle.std.proofs.Common.{◌≡◌, ◌-◌, ◌≤◌, length}
 use Rattle.feeds.specs.Feed.{feed_of}
 use Rattle.feeds.specs.Fed.{Starts, Going}
 use Rattle.feeds.proofs.Feeder.feed.Given as goal
@@ -11,6 +11,7 @@ invariant-loop-used g l = record {
   kept : length l.held ≡ 601;
   room : length l.out ≡ length l.initial.out;
   starts : Starts l.input l.used;
+  most : l.self.have ≤ 601;
 }
 
 abbrev pub decreases-loop-used : goal.decreases-loop-used

@@ -17,7 +17,7 @@ pub returns-in_err-answer_piece-in-Ok-Some : goal.returns-in_err-answer_piece-in
 returns-in_err-answer_piece-in-Ok-Some g c =
     let p = err_from_is_err_and c.from_residual.result c.from_residual.ensures.1 in
     let e = c.in_err-answer_piece-in-Ok-Some.ensures in
-    rw (p.1, p.2) (came_fail c.loop.invariant.came e.taken e.piece)
+    rw (p.1, p.2) (came_fail c.loop.invariant.came e.taken e.piece (simp length-take (omega (arith, got_count c.in-Ok-Some.field-0-is c.in-Ok-Some.ensures))))
 
 pub returns-in_default : goal.returns-in_default
 returns-in_default g c = came_stop c.loop.invariant.came c.stop.ensures.ran
@@ -25,7 +25,7 @@ returns-in_default g c = came_stop c.loop.invariant.came c.stop.ensures.ran
 pub loop-preserved : goal.loop-preserved
 loop-preserved g c =
     let e = c.in_ok-answer_piece-in-Ok-Some.ensures in
-    record { scratch = search rules; room = search rules; came = came_more c.loop.invariant.came e.taken e.piece }
+    record { scratch = search rules; room = search rules; came = came_more c.loop.invariant.came e.taken e.piece (simp length-take (omega (arith, got_count c.in-Ok-Some.field-0-is c.in-Ok-Some.ensures))) }
 
 pub returns : goal.returns
 returns g c = came_stop c.loop.invariant.came c.stop-2.ensures.ran
@@ -35,3 +35,6 @@ stop-requires g c = let k = c.loop.invariant.came in (came_taken k, came_written
 
 pub stop-requires-2 : goal.stop-requires-2
 stop-requires-2 g c = let k = c.loop.invariant.came in (came_taken k, came_written k)
+
+pub answer_piece-requires : goal.answer_piece-requires
+answer_piece-requires g c = came_written c.loop.invariant.came

@@ -4,7 +4,7 @@ use Rattle.relay.proofs.Parts.{part_to, parts_start, parts_more, parts_fail, res
 use Rattle.relay.proofs.Relaying.answer_piece.Goals as goal
 
 pub loop-from-init : goal.loop-from-init
-loop-from-init g c = record { taken = refl; scratch = refl; parts = parts_start _ _ _ (search rules) }
+loop-from-init g c = record { taken = refl; scratch = refl; parts = parts_start _ _ _ c.requires }
 
 pub returns-in_err-say-clause-piece : goal.returns-in_err-say-clause-piece
 returns-in_err-say-clause-piece g c =
